@@ -1,0 +1,72 @@
+-- What the console prints, as bytes. Assumes nothing.
+--   listed f i xs    the texts f i x, f (i + 1) y, .. of the entries x, y, .. of xs, one after another
+--   stop-text o      a pack's stop
+--   pack-text m      a pack that was taken
+--   grammar-text m   the listing of a grammar
+use mathlib.Core.List.{List, [], _∷_, _++_}
+use mathlib.Core.Bool.{cond}
+use Prim.Native.Nat.{ℕ, _+_}
+use lib.Chars.{codes}
+use lib.Dec.{eqb}
+use lib.ListN.{length}
+use Rattle.std.specs.Written.{decimal}
+use Rattle.grammar.specs.Grammars.{ProductionModel, GrammarModel}
+use Rattle.grammar.specs.declared.symbol.Symbol.{Symbol}
+use Rattle.grammar.specs.declared.symbol.Symbol.the-variants as symbol
+use Rattle.grammar.specs.declared.stops.Layer.{Layer}
+use Rattle.grammar.specs.declared.stops.Layer.the-variants.{Reader, Grammar}
+use Rattle.grammar.specs.Stops.{Stop}
+
+abbrev pub listed : {X : Type 0} → (ℕ → X → List ℕ) → ℕ → List X → List ℕ
+listed f i [] = []
+listed f i (x ∷ xs) = f i x ++ listed f (i + 1) xs
+
+abbrev pub layer-text : Layer → List ℕ
+layer-text Reader = codes "reader"
+layer-text Grammar = codes "grammar"
+
+abbrev pub stop-text : Stop → List ℕ
+stop-text o =
+    codes "stop " ++ (decimal (o .number) ++ (codes " figure " ++ (decimal (o .figure) ++ (codes " layer " ++ (layer-text (o .layer) ++ codes "\n")))))
+
+abbrev pub counts-text : ℕ → ℕ → ℕ → ℕ → List ℕ
+counts-text kind categories start productions =
+    codes "pack kind " ++ (decimal kind ++ (codes " categories " ++ (decimal categories ++ (codes " start " ++ (decimal start
+    ++ (codes " productions " ++ (decimal productions ++ codes "\n")))))))
+
+abbrev pub pack-text : GrammarModel → List ℕ
+pack-text m = counts-text (m .kind) (length (m .dimensions)) (m .start) (length (m .productions))
+
+abbrev pub category-text : ℕ → ℕ → List ℕ
+category-text i d = codes "category " ++ (decimal i ++ (codes " dimension " ++ (decimal d ++ codes "\n")))
+
+-- one space between the arguments
+abbrev pub argument-text : ℕ → ℕ → List ℕ
+argument-text i a = cond (eqb i 0) [] (codes " ") ++ decimal a
+
+-- a space before each symbol
+abbrev pub symbol-text : ℕ → Symbol → List ℕ
+symbol-text i (symbol.Token t) = codes " " ++ decimal t
+symbol-text i (symbol.Part k l) = codes " <" ++ (decimal k ++ (codes ";" ++ (decimal l ++ codes ">")))
+
+-- a stroke between the constituents
+abbrev pub constituent-text : ℕ → List Symbol → List ℕ
+constituent-text i c = cond (eqb i 0) [] (codes " /") ++ listed symbol-text 0 c
+
+abbrev pub head-text : ℕ → ℕ → ℕ → List ℕ
+head-text i category weight =
+    codes "production " ++ (decimal i ++ (codes ": " ++ (decimal category ++ (codes " <- " ++ (decimal weight ++ codes " [")))))
+
+abbrev pub production-text : ℕ → ProductionModel → List ℕ
+production-text i p =
+    head-text i (p .category) (p .weight) ++ (listed argument-text 0 (p .arguments) ++ (codes "]" ++ (listed constituent-text 0 (p .constituents) ++ codes "\n")))
+
+abbrev pub kind-text : ℕ → List ℕ
+kind-text kind = codes "kind " ++ (decimal kind ++ codes "\n")
+
+abbrev pub start-text : ℕ → List ℕ
+start-text start = codes "start " ++ (decimal start ++ codes "\n")
+
+abbrev pub grammar-text : GrammarModel → List ℕ
+grammar-text m =
+    kind-text (m .kind) ++ (listed category-text 0 (m .dimensions) ++ (start-text (m .start) ++ listed production-text 0 (m .productions)))

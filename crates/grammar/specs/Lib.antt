@@ -1,0 +1,16 @@
+pub mod Limits
+pub mod Grammars
+pub mod Formed
+pub mod Encoding
+pub mod Stops
+pub mod Commands
+pub mod Drafts
+pub mod Checks
+pub mod Loads
+pub mod Stopping
+pub mod Entries
+pub mod Theorems
+pub mod Tested
+pub mod Held
+pub mod Model
+pub mod Loaders

@@ -1,0 +1,6 @@
+// The handset's console.
+use std::io;
+
+fn main(rt: LibcRuntime) -> io::Result<()> {
+    console::drive(&rt)
+}
