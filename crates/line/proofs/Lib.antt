@@ -1,0 +1,4 @@
+mod Lists
+mod Histories
+mod Spelled
+mod Words
