@@ -1,2 +1,3 @@
 mod Spelling
+mod Numbering
 mod Listing

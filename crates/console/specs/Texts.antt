@@ -3,6 +3,8 @@
 --   stop-text o      a pack's stop
 --   pack-text m      a pack that was taken
 --   grammar-text m   the listing of a grammar
+--   content-text k   the tokens of a line or a phrase
+--   reply-text       the answer to a call on one
 use mathlib.Core.List.{List, [], _∷_, _++_}
 use mathlib.Core.Bool.{cond}
 use Prim.Native.Nat.{ℕ, _+_}
@@ -16,6 +18,8 @@ use Rattle.grammar.specs.declared.symbol.Symbol.the-variants as symbol
 use Rattle.grammar.specs.declared.stops.Layer.{Layer}
 use Rattle.grammar.specs.declared.stops.Layer.the-variants.{Reader, Grammar}
 use Rattle.grammar.specs.Stops.{Stop}
+use Rattle.line.specs.Stops as line
+use Rattle.line.specs.Runs.{Content, Keying, Keyed, Reply, Made, WhileSealed, WhileOpen}
 
 abbrev pub listed : {X : Type 0} → (ℕ → X → List ℕ) → ℕ → List X → List ℕ
 listed f i [] = []
@@ -70,3 +74,30 @@ start-text start = codes "start " ++ (decimal start ++ codes "\n")
 abbrev pub grammar-text : GrammarModel → List ℕ
 grammar-text m =
     kind-text (m .kind) ++ (listed category-text 0 (m .dimensions) ++ (start-text (m .start) ++ listed production-text 0 (m .productions)))
+
+abbrev pub token-text : ℕ → ℕ → List ℕ
+token-text i t = codes " " ++ decimal t
+
+-- a word, and the tokens behind it
+abbrev pub tokens-text : List ℕ → List ℕ → List ℕ
+tokens-text word ts = word ++ (listed token-text 0 ts ++ codes "\n")
+
+abbrev pub content-text : Content → List ℕ
+content-text (Keying ts) = tokens-text (codes "line") ts
+content-text (Keyed ts) = tokens-text (codes "phrase") ts
+
+abbrev pub figure-text : ℕ → ℕ → List ℕ
+figure-text number figure = codes "stop " ++ (decimal number ++ (codes " figure " ++ (decimal figure ++ codes "\n")))
+
+-- a call that is done shows what is then held
+abbrev pub told-text : line.Told → Content → List ℕ
+told-text line.Done k = content-text k
+told-text (line.Stop number figure) k = figure-text number figure
+
+abbrev pub reply-text : Reply → Content → List ℕ
+reply-text (Made t) k = told-text t k
+reply-text WhileSealed k = codes "refused: the line is sealed\n"
+reply-text WhileOpen k = codes "refused: the line is not sealed\n"
+
+abbrev pub room-text : ℕ → List ℕ
+room-text room = codes "room " ++ (decimal room ++ codes "\n")

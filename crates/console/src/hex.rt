@@ -42,7 +42,7 @@ fn next_byte(text: &[u8]) -> Option<(u8, &[u8])>
 }
 
 // The bytes that a text spells, if it spells any.
-pub fn bytes_of(heap: Global, text: &[u8]) -> Result<Option<Vec<u8>>, AllocError>
+pub(crate) fn bytes_of(heap: Global, text: &[u8]) -> Result<Option<Vec<u8>>, AllocError>
     ensures { λ r. ⌜ made r (λ o. mapped vec-items o ≡ bytesOf (now (text .entry))) ⌝ }
 {
     let mut bytes = Vec::new(heap);

@@ -5,17 +5,21 @@ ghost use lib.Dec.{eqb};
 ghost use mathlib.Core.Path.{_≡_};
 ghost use Rattle.std.specs.Of.String.{string-bytes};
 ghost use Rattle.std.specs.Vec.{made};
-ghost use Rattle.console.specs.Texts.{argument-text, category-text, constituent-text, counts-text, grammar-text, head-text, kind-text, layer-text, listed, pack-text, production-text, start-text, stop-text, symbol-text};
+ghost use Rattle.console.specs.Texts.{argument-text, category-text, constituent-text, content-text, counts-text, figure-text, grammar-text, head-text, kind-text, layer-text, listed, pack-text, production-text, reply-text, room-text, start-text, stop-text, symbol-text, token-text, tokens-text};
 ghost use Rattle.grammar.specs.Entries.{entries};
 ghost use Rattle.grammar.specs.Held.{production-model};
 ghost use Rattle.grammar.specs.Model.{model};
 ghost use Rattle.grammar.specs.Stops.{told};
+ghost use Rattle.line.specs.Runs.{Content, contentOf, reply};
+ghost use Rattle.std.specs.declared.result.Result.the-variants.{Err};
 use grammar::Grammar;
 use grammar::Layer;
 use grammar::PackStop;
 use grammar::Production;
 use grammar::Row;
 use grammar::Symbol;
+use line::Held;
+use line::Refusal;
 use std::alloc::AllocError;
 use std::alloc::Global;
 
@@ -28,7 +32,7 @@ fn layer_name(layer: Layer) -> &'static str
     }
 }
 
-pub fn stop_line(heap: Global, stop: &PackStop) -> Result<String, AllocError>
+pub(crate) fn stop_line(heap: Global, stop: &PackStop) -> Result<String, AllocError>
     ensures { λ r. ⌜ made r (λ s. string-bytes s ≡ stop-text (told (now (stop .entry)))) ⌝ }
 {
     let number = stop.number();
@@ -52,7 +56,7 @@ fn counts_line(
     )
 }
 
-pub fn pack_line(heap: Global, grammar: &Grammar) -> Result<String, AllocError>
+pub(crate) fn pack_line(heap: Global, grammar: &Grammar) -> Result<String, AllocError>
     ensures { λ r. ⌜ made r (λ s. string-bytes s ≡ pack-text (model (now (grammar .entry)))) ⌝ }
 {
     let categories = grammar.dimensions().len();
@@ -206,7 +210,7 @@ fn start_line(heap: Global, start: u8) -> Result<String, AllocError>
 }
 
 // The held grammar, a line for each of its parts.
-pub fn grammar_lines(heap: Global, grammar: &Grammar) -> Result<String, AllocError>
+pub(crate) fn grammar_lines(heap: Global, grammar: &Grammar) -> Result<String, AllocError>
     ensures { λ r. ⌜ made r (λ s. string-bytes s ≡ grammar-text (model (now (grammar .entry)))) ⌝ }
 {
     let mut out = kind_line(heap, grammar.kind())?;
@@ -215,4 +219,76 @@ pub fn grammar_lines(heap: Global, grammar: &Grammar) -> Result<String, AllocErr
     out.push_str(start.as_str())?;
     push_productions(heap, &mut out, grammar.productions())?;
     Ok(out)
+}
+
+fn push_token(heap: Global, out: &mut String, token: u16) -> Result<(), AllocError>
+    ensures { λ r. ⌜ made r (λ _. string-bytes (now (out .exit)) ≡ string-bytes (now (out .entry)) ++ token-text 0 token) ⌝ }
+{
+    let text = format!(heap, " {token}")?;
+    out.push_str(text.as_str())
+}
+
+fn push_tokens(heap: Global, out: &mut String, tokens: &[u16]) -> Result<(), AllocError>
+    ensures { λ r. ⌜ made r (λ _. string-bytes (now (out .exit)) ≡ string-bytes (now (out .entry)) ++ listed token-text 0 (now (tokens .entry))) ⌝ }
+{
+    for token in tokens {
+        push_token(heap, out, *token)?;
+    }
+    Ok(())
+}
+
+// A word, and the tokens behind it.
+pub(crate) fn tokens_line(heap: Global, word: &str, tokens: &[u16]) -> Result<String, AllocError>
+    ensures { λ r. ⌜ made r (λ s. string-bytes s ≡ tokens-text (now (word .entry)) (now (tokens .entry))) ⌝ }
+{
+    let mut out = String::from_str(heap, word)?;
+    push_tokens(heap, &mut out, tokens)?;
+    out.push_str("\n")?;
+    Ok(out)
+}
+
+pub(crate) fn figure_line(heap: Global, number: u8, figure: usize) -> Result<String, AllocError>
+    ensures { λ r. ⌜ made r (λ s. string-bytes s ≡ figure-text number figure) ⌝ }
+{
+    format!(heap, "stop {number} figure {figure}\n")
+}
+
+// What is held, as a line or as a phrase.
+pub(crate) fn held_line(heap: Global, held: &Held) -> Result<String, AllocError>
+    ensures { λ r. ⌜ made r (λ s. string-bytes s ≡ content-text (contentOf (now (held .entry)))) ⌝ }
+{
+    match held {
+        Held::Open(line) => tokens_line(heap, "line", line.tokens()),
+        Held::Sealed(phrase) => tokens_line(heap, "phrase", phrase.tokens()),
+    }
+}
+
+fn refusal_line(heap: Global, refusal: Refusal) -> Result<String, AllocError>
+    ensures { λ r. ⌜ made r (λ s. (k : Content) → string-bytes s ≡ reply-text (reply (Err refusal)) k) ⌝ }
+{
+    match refusal {
+        Refusal::Stopped(stop) => figure_line(heap, stop.number(), stop.figure()),
+        Refusal::IsSealed => String::from_str(heap, "refused: the line is sealed\n"),
+        Refusal::NotSealed => String::from_str(heap, "refused: the line is not sealed\n"),
+    }
+}
+
+// The answer to a call on what is held.
+pub(crate) fn reply_line(
+    heap: Global,
+    answer: Result<(), Refusal>,
+    held: &Held,
+) -> Result<String, AllocError>
+    ensures { λ r. ⌜ made r (λ s. string-bytes s ≡ reply-text (reply answer) (contentOf (now (held .entry)))) ⌝ }
+{
+    match answer {
+        Ok(()) => held_line(heap, held),
+        Err(refusal) => refusal_line(heap, refusal),
+    }
+}
+
+pub(crate) fn room_line(heap: Global, room: u16) -> Result<String, AllocError>
+    ensures { λ r. ⌜ made r (λ s. string-bytes s ≡ room-text room) ⌝ }
+{
+    format!(heap, "room {room}\n")
 }
