@@ -4,7 +4,6 @@
 --   stateAfter s t     what is held after it
 use mathlib.Core.List.{List, []}
 use Prim.Native.Nat.{ℕ}
-use lib.Chars.{codes}
 use Rattle.std.specs.declared.option.Option.{Option}
 use Rattle.std.specs.declared.option.Option.the-variants.{Some, None}
 use Rattle.std.specs.declared.result.Result.{Result}
@@ -20,7 +19,8 @@ use Rattle.line.specs.declared.run.Call.{Call}
 use Rattle.console.specs.declared.session.Session.{Session}
 use Rattle.console.specs.declared.step.Step.{Step}
 use Rattle.console.specs.declared.step.Step.the-variants as step
-use Rattle.console.specs.Texts.{stop-text, pack-text, grammar-text, reply-text, room-text}
+use Rattle.replay.specs.Replays.{replayOf}
+use Rattle.console.specs.Texts.{stop-text, pack-text, grammar-text, reply-text, room-text, played-text, no-pack}
 
 pub record State : Type 0 where
   pub grammar : Option GrammarModel
@@ -53,8 +53,13 @@ kept h (Ok m) = Some m
 kept h (Err o) = h
 
 abbrev pub listing : Option GrammarModel → List ℕ
-listing None = codes "refused: no pack is loaded\n"
+listing None = no-pack
 listing (Some m) = grammar-text m
+
+-- the phrase of a command list, or why it is not replayed
+abbrev pub replaying : Option GrammarModel → List ℕ → ℕ → List ℕ
+replaying None list room = no-pack
+replaying (Some m) list room = played-text (replayOf m list room)
 
 -- the answer to a call, which shows what is held after it
 abbrev pub call-text : Content → Call → List ℕ
@@ -66,6 +71,7 @@ answerOf s step.Comment = []
 answerOf s (step.Pack v) = load-text (loadOf (vec-items v))
 answerOf s step.Grammar = listing (s .grammar)
 answerOf s (step.Room n) = room-text n
+answerOf s (step.Replay v) = replaying (s .grammar) (vec-items v) (s .room)
 answerOf s (step.Call c) = call-text (s .content) c
 
 abbrev pub stateAfter : State → Step → State
@@ -74,4 +80,5 @@ stateAfter s step.Comment = s
 stateAfter s (step.Pack v) = with-grammar s (kept (s .grammar) (loadOf (vec-items v)))
 stateAfter s step.Grammar = s
 stateAfter s (step.Room n) = with-room s n
+stateAfter s (step.Replay v) = s
 stateAfter s (step.Call c) = with-content s (after (s .content) c)

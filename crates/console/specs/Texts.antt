@@ -5,6 +5,7 @@
 --   grammar-text m   the listing of a grammar
 --   content-text k   the tokens of a line or a phrase
 --   reply-text       the answer to a call on one
+--   played-text o    the outcome of a replay
 use mathlib.Core.List.{List, [], _∷_, _++_}
 use mathlib.Core.Bool.{cond}
 use Prim.Native.Nat.{ℕ, _+_}
@@ -18,7 +19,10 @@ use Rattle.grammar.specs.declared.symbol.Symbol.the-variants as symbol
 use Rattle.grammar.specs.declared.stops.Layer.{Layer}
 use Rattle.grammar.specs.declared.stops.Layer.the-variants.{Reader, Grammar}
 use Rattle.grammar.specs.Stops.{Stop}
+use Rattle.std.specs.declared.result.Result.{Result}
+use Rattle.std.specs.declared.result.Result.the-variants.{Ok, Err}
 use Rattle.line.specs.Stops as line
+use Rattle.replay.specs.Stops as replay
 use Rattle.line.specs.Runs.{Content, Keying, Keyed, Reply, Made, WhileSealed, WhileOpen}
 
 abbrev pub listed : {X : Type 0} → (ℕ → X → List ℕ) → ℕ → List X → List ℕ
@@ -101,3 +105,10 @@ reply-text WhileOpen k = codes "refused: the line is not sealed\n"
 
 abbrev pub room-text : ℕ → List ℕ
 room-text room = codes "room " ++ (decimal room ++ codes "\n")
+
+abbrev pub played-text : Result (List ℕ) replay.Stop → List ℕ
+played-text (Ok phrase) = tokens-text (codes "phrase") phrase
+played-text (Err o) = figure-text (o .number) (o .figure)
+
+abbrev pub no-pack : List ℕ
+no-pack = codes "refused: no pack is loaded\n"

@@ -21,6 +21,7 @@ pub enum Step {
     Pack(Vec<u8>),
     Grammar,
     Room(u16),
+    Replay(Vec<u8>),
     // A call on the line or the phrase.
     Call(Call),
 }
@@ -72,6 +73,12 @@ fn parse_operands(heap: Global, line: &[u8]) -> Result<Result<Step, Fault>, Allo
     if let Some(text) = line.strip_prefix(b"pack") {
         return match bytes_of(heap, text)? {
             Some(bytes) => Ok(Ok(Step::Pack(bytes))),
+            None => Ok(Err(Fault::NoBytes)),
+        };
+    }
+    if let Some(text) = line.strip_prefix(b"replay") {
+        return match bytes_of(heap, text)? {
+            Some(bytes) => Ok(Ok(Step::Replay(bytes))),
             None => Ok(Err(Fault::NoBytes)),
         };
     }

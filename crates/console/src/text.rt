@@ -2,10 +2,12 @@
 ghost use mathlib.Core.Bool.{cond};
 ghost use mathlib.Core.List.{[], _++_, map};
 ghost use lib.Dec.{eqb};
+ghost use lib.ListN.{length};
+ghost use Rattle.replay.specs.Replays.{replayOf};
 ghost use mathlib.Core.Path.{_≡_};
 ghost use Rattle.std.specs.Of.String.{string-bytes};
 ghost use Rattle.std.specs.Vec.{made};
-ghost use Rattle.console.specs.Texts.{argument-text, category-text, constituent-text, content-text, counts-text, figure-text, grammar-text, head-text, kind-text, layer-text, listed, pack-text, production-text, reply-text, room-text, start-text, stop-text, symbol-text, token-text, tokens-text};
+ghost use Rattle.console.specs.Texts.{argument-text, category-text, constituent-text, content-text, counts-text, figure-text, grammar-text, head-text, kind-text, layer-text, listed, no-pack, pack-text, played-text, production-text, reply-text, room-text, start-text, stop-text, symbol-text, token-text, tokens-text};
 ghost use Rattle.grammar.specs.Entries.{entries};
 ghost use Rattle.grammar.specs.Held.{production-model};
 ghost use Rattle.grammar.specs.Model.{model};
@@ -20,6 +22,7 @@ use grammar::Row;
 use grammar::Symbol;
 use line::Held;
 use line::Refusal;
+use replay::replay;
 use std::alloc::AllocError;
 use std::alloc::Global;
 
@@ -291,4 +294,25 @@ pub(crate) fn room_line(heap: Global, room: u16) -> Result<String, AllocError>
     ensures { λ r. ⌜ made r (λ s. string-bytes s ≡ room-text room) ⌝ }
 {
     format!(heap, "room {room}\n")
+}
+
+// The phrase that a command list is replayed to, over a lent output.
+pub(crate) fn played_line(
+    heap: Global,
+    grammar: &Grammar,
+    commands: &[u8],
+    output: &mut [u16],
+) -> Result<String, AllocError>
+    ensures { λ r. ⌜ made r (λ s. string-bytes s ≡ played-text (replayOf (model (now (grammar .entry))) (now (commands .entry)) (length (now (output .entry))))) ⌝ }
+{
+    match replay(grammar, commands, output) {
+        Ok(length) => tokens_line(heap, "phrase", &output[0..length]),
+        Err(stop) => figure_line(heap, stop.number(), stop.figure()),
+    }
+}
+
+pub(crate) fn no_pack_line(heap: Global) -> Result<String, AllocError>
+    ensures { λ r. ⌜ made r (λ s. string-bytes s ≡ no-pack) ⌝ }
+{
+    String::from_str(heap, "refused: no pack is loaded\n")
 }

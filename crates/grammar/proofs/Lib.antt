@@ -1,5 +1,5 @@
 mod Arms
-mod Typed
+pub mod Typed
 pub mod Tests
 pub mod Each
 mod Naming
@@ -17,3 +17,6 @@ mod Scanning
 mod Parts
 mod Steps
 mod Answering
+pub mod Decode
+pub mod Yields
+pub mod Growing

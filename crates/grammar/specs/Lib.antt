@@ -14,3 +14,7 @@ pub mod Tested
 pub mod Held
 pub mod Model
 pub mod Loaders
+pub mod Tokens
+pub mod Trees
+pub mod Orders
+pub mod TreeLaws

@@ -9,6 +9,8 @@ pub mod stage;
 pub mod stops;
 pub mod symbol;
 mod taking;
+mod tokens;
+mod trees;
 
 pub use command::Command;
 pub use command::Unread;
@@ -21,3 +23,5 @@ pub use stops::PackStop;
 pub use stops::PackStopDisplay;
 pub use symbol::Symbol;
 pub use taking::load;
+pub use tokens::same_token;
+pub use trees::trees_stand;

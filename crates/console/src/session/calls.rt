@@ -2,14 +2,16 @@
 ghost use mathlib.Core.Path.{_≡_};
 ghost use Rattle.std.specs.Of.String.{string-bytes};
 ghost use Rattle.std.specs.Vec.{made};
-ghost use Rattle.console.specs.Sessions.{answerOf, call-text, fresh, kept, listing, load-text, stateAfter, stateOf, with-content, with-grammar, with-room};
+ghost use Rattle.console.specs.Sessions.{answerOf, call-text, fresh, kept, listing, load-text, replaying, stateAfter, stateOf, with-content, with-grammar, with-room};
 ghost use Rattle.console.specs.Texts.{room-text};
 ghost use Rattle.grammar.specs.Loads.{loadOf};
 ghost use Rattle.line.specs.Runs.{after};
 use crate::session::Session;
 use crate::step::Step;
 use crate::text::grammar_lines;
+use crate::text::no_pack_line;
 use crate::text::pack_line;
+use crate::text::played_line;
 use crate::text::reply_line;
 use crate::text::room_line;
 use crate::text::stop_line;
@@ -53,7 +55,7 @@ impl Session {
     {
         match &self.grammar {
             Some(grammar) => grammar_lines(heap, grammar),
-            None => String::from_str(heap, "refused: no pack is loaded\n"),
+            None => no_pack_line(heap),
         }
     }
 
@@ -78,6 +80,20 @@ impl Session {
         room_line(heap, room)
     }
 
+    // Replays a command list into as much output as is lent.
+    pub fn replay(&self, heap: Global, commands: &[u8]) -> Result<String, AllocError>
+        ensures { λ r. ⌜ made r (λ s. string-bytes s ≡ replaying (stateOf (now (self .entry)) .grammar) (now (commands .entry)) (stateOf (now (self .entry)) .room)) ⌝ }
+    {
+        match &self.grammar {
+            Some(grammar) => {
+                let mut output = vec![in heap; 0; self.room as usize]?;
+                let text = played_line(heap, grammar, commands, &mut output)?;
+                Ok(text)
+            }
+            None => no_pack_line(heap),
+        }
+    }
+
     // What a step prints, but for the line itself.
     pub fn perform(&mut self, heap: Global, step: Step) -> Result<String, AllocError>
         ensures text { λ r. ⌜ made r (λ s. string-bytes s ≡ answerOf (stateOf (now (self .entry))) step) ⌝ }
@@ -96,6 +112,10 @@ impl Session {
             }
             Step::Room(room) => {
                 let text = self.lend_room(heap, room)?;
+                Ok(text)
+            }
+            Step::Replay(commands) => {
+                let text = self.replay(heap, commands.as_slice())?;
                 Ok(text)
             }
             Step::Call(call) => {

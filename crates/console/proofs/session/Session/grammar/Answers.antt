@@ -7,4 +7,4 @@ use Rattle.console.proofs.session.Session.grammar.Needs as need
 
 pub returns-in-None : need.returns-in-None
 returns-in-None c =
-    made-weaker (c .from-str .result) _ _ (λ s e. e ∙ ap (λ o. listing (mapped model o)) (sym (c .in-None .is))) (c .from-str .ensures .made)
+    made-weaker (c .no-pack-line .result) _ _ (λ s e. e ∙ ap (λ o. listing (mapped model o)) (sym (c .in-None .is))) (c .no-pack-line .ensures)

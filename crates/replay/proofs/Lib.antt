@@ -1,0 +1,9 @@
+mod Laid
+mod Spelling
+mod Tested
+mod Performing
+mod Sound
+mod Complete
+mod Answering
+mod Running
+mod Finishing
