@@ -1,4 +1,4 @@
-// Packs on both sides of each limit, and each command at each stage, run through the console.
+// Packs on both sides of each limit, each command at each stage, and lines that ask for nothing, run through the console.
 use std::io;
 
 fn main(rt: LibcRuntime) -> io::Result<()> {
