@@ -1,3 +1,4 @@
 mod Spelling
 mod Numbering
 mod Listing
+mod Blanks

@@ -1,4 +1,5 @@
 pub mod Hex
 pub mod Decimal
 pub mod Texts
+pub mod Steps
 pub mod Sessions
