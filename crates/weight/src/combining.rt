@@ -7,7 +7,7 @@ use std::cmp::Ordering;
 
 // The value that holds more, the first where both hold the same.
 pub fn larger<W: Weight>(x: W, y: W) -> W
-    ensures { result ≡ larger algebra exact x y }
+    ensures { result ≡ larger W.algebra W.exact x y }
 {
     match x.compare(y) {
         Ordering::Less => y,
@@ -18,7 +18,7 @@ pub fn larger<W: Weight>(x: W, y: W) -> W
 
 // The combination of three, or nothing where it is above the ceiling.
 pub fn combine3<W: Weight>(x: W, y: W, z: W) -> Option<W>
-    ensures { Within algebra exact result (algebra.plus (algebra.plus (exact x) (exact y)) (exact z)) }
+    ensures { Within W.algebra W.exact result (W.algebra.plus (W.algebra.plus (W.exact x) (W.exact y)) (W.exact z)) }
 {
     match x.combine(y) {
         Some(both) => both.combine(z),
@@ -28,7 +28,7 @@ pub fn combine3<W: Weight>(x: W, y: W, z: W) -> Option<W>
 
 // The combination of all, or nothing where it is above the ceiling.
 pub fn combine_all<W: Weight>(xs: &[W]) -> Option<W>
-    ensures { Within algebra exact result (total algebra exact xs.now) }
+    ensures { Within W.algebra W.exact result (total W.algebra W.exact xs.now) }
 {
     let mut sum = W::none();
     for x in xs {

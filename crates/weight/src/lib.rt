@@ -1,4 +1,6 @@
 // Weight kinds: what a kind is, the two kinds at hand, and what values of every kind can do.
+#![tactic(auto)]
+
 pub mod combining;
 pub mod odds;
 pub mod sums;

@@ -24,7 +24,7 @@ impl Weight for Odds {
 
     ghost lawful = { odds_lawful };
 
-    ghost within = { first_of (Prim.search rules, Prim.grind (arith, Self.row.coded.inj)) };
+    ghost within = { Prim.search rules };
 
     ghost held = { λ e h. (record { value = e.number; positive = e.positive; within = omega (arith, h) }, same_number refl) };
 

@@ -22,15 +22,15 @@ impl Weight for Sums {
 
     ghost nothing = { no_sum };
 
-    ghost lawful = { first_of (Prim.search rules, Prim.grind (arith, Self.row.coded.inj)) };
+    ghost lawful = { Prim.search rules };
 
-    ghost within = { first_of (Prim.search rules, Prim.grind (arith, Self.row.coded.inj)) };
+    ghost within = { Prim.search rules };
 
     ghost held = { λ e h. (record { value = e; within = omega (arith, h) }, refl) };
 
     ghost same = { sums_same };
 
-    ghost empty = { first_of (Prim.search rules, Prim.grind (arith, Self.row.coded.inj)) };
+    ghost empty = { refl };
 
     fn kind_number() -> u8 {
         Self::KIND

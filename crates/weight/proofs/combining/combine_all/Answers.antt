@@ -4,8 +4,8 @@ use Rattle.weight.proofs.Orders.{lt_le_lt}
 use Rattle.weight.proofs.Totals.{total_more, total_front}
 use Rattle.weight.proofs.combining.combine_all.Goals as goal
 
-pub returns-in-err-sum : goal.returns-in-err-sum
-returns-in-err-sum g c =
+pub returns-in_err-sum : goal.returns-in_err-sum
+returns-in_err-sum g c =
     let A = g.W.Weight.algebra in
     let laws = g.met.W.Weight.lawful in
     let exact = g.W.Weight.exact in
@@ -16,8 +16,8 @@ returns-in-err-sum g c =
     let front = total A exact (take (i + 1) xs) in
     let so_far : A.plus (exact c.loop-x.sum) (exact x) ≡ front =
     ap (λ e. A.plus e (exact x)) c.loop-x.invariant ∙ sym (total_more laws exact xs i x c.loop-x-test.true c.x-item.is) in
-    rw c.from-residual.ensures
-    (lt_le_lt laws A.ceiling front (total A exact xs) (subst P so_far c.in-err-sum.ensures) (total_front laws exact xs (i + 1)))
+    rw c.from_residual.ensures
+    (lt_le_lt laws A.ceiling front (total A exact xs) (subst P so_far c.in_err-sum.ensures) (total_front laws exact xs (i + 1)))
 
 pub loop-x-preserved : goal.loop-x-preserved
 loop-x-preserved g c =
@@ -25,7 +25,7 @@ loop-x-preserved g c =
     let laws = g.met.W.Weight.lawful in
     let exact = g.W.Weight.exact in
     let x = c.x-item.result in
-    c.in-ok-sum.ensures ∙ ap (λ e. A.plus e (exact x)) c.loop-x.invariant
+    c.in_ok-sum.ensures ∙ ap (λ e. A.plus e (exact x)) c.loop-x.invariant
     ∙ sym (total_more laws exact c.args.xs.now c.loop-x.x-index x c.loop-x-test.true c.x-item.is)
 
 pub returns : goal.returns
