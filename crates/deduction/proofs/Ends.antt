@@ -4,7 +4,7 @@ use Rattle.weight.specs.Algebra.{Algebra, Lawful, Le}
 use Rattle.weight.proofs.Orders.{le_cases, lt_le_lt, le_trans, le_plus_right}
 use Rattle.deduction.specs.Counts.{Among, Listed, Number, Exceeds}
 use Rattle.deduction.proofs.Numbers.{rising_number}
-use Rattle.deduction.specs.Deduction.{System, Priced, Der, none, NotLater, Key, Before, NotAfter, Derives, cost, word, NoWorse, Fits, key, Keyed, Consistent}
+use Rattle.deduction.specs.Deduction.{System, Priced, Der, NotLater, Key, Before, NotAfter, Derives, cost, word, NoWorse, Fits, key, Keyed, Consistent}
 use Rattle.deduction.specs.Search.{HasKey, CountedTo, Counted, Least, Searched}
 use Rattle.deduction.proofs.Keys.{sooner_irrefl, sooner_trans, before_not_after, before_not_after_before, not_after_trans, not_after_refl, not_after_item}
 use Rattle.deduction.proofs.Derivations.{no_worse_le}
