@@ -2,7 +2,7 @@
 use Rattle.std.proofs.Common.{◌≡◌, ℕ, zero, suc, ◌+◌, ◌-◌, ◌<◌, ◌≤◌, Bool, List, [], ◌∷◌, ◌++◌, length, get_or, take, set, sym, refl, ap, ◌∙◌, subst, arith, length-set}
 use Rattle.std.specs.List.Sorted.{IsPermutation}
 use Rattle.std.specs.List as holes
-use Rattle.std.proofs.Permutation.{taken-first}
+use Rattle.std.proofs.Permutation.{taken_at}
 use Rattle.std.proofs.lemmas.List.{take-take, take_more_set, get_or-take, get_or-set_other, get_or_default, length-take-le}
 use Rattle.std.proofs.lemmas.List.Sorted.{IsPermutation-sym, IsPermutation-to_front}
 use Rattle.agenda.specs.Orders.{Ordered, Heap, Up, Down, First}
@@ -61,7 +61,7 @@ module _ {X : Type 0} (lt : X → X → Bool) (xs : List X) where
         (λ k. take (long k) (set (take n xs) 0 (w k))) ∙ set_taken (take n xs) m 0 v ∙ ap (λ l. set l 0 v) (take-take m n xs (omega arith)) ∙ sym (set_taken xs m 0 v)
 
     pub pop_start : IsPermutation (take n xs) (x ∷ take m (set xs 0 v))
-    pop_start = subst (λ l. IsPermutation (take n xs) (x ∷ l)) taken (taken-first (take n xs) x (omega (arith, front)) (top_is x))
+    pop_start = subst (λ l. IsPermutation (take n xs) (x ∷ l)) taken (taken_at (take n xs) 0 x (omega (arith, front)) (top_is x))
 
     pub pop_first : Ordered lt → Heap lt (take n xs) → First lt x (take n xs)
     pop_first o h k d l = sifts.by lt _ _ _ _ refl (top_is d) (sifts.top lt o (λ i. get_or (take n xs) i d) (length (take n xs)) (h d) k k (omega arith) l)

@@ -29,11 +29,11 @@ fn ahead<E: Slotted + Copy>(cells: &[Cell<E>], len: usize, i: usize, j: usize) -
 // Exchanges the entries at i and j, and notes where they are now.
 fn exchange<E: Slotted + Copy>(cells: &mut [Cell<E>], len: usize, i: usize, j: usize)
     requires within { (i < len) × (j < len) × (len ≤ length cells.old) }
-    requires placed { Placed index (held cells.old len) (slots_of cells.old) }
+    requires placed { Placed E.index (held cells.old len) (slots_of cells.old) }
     ensures shuffled { IsPermutation (held cells.old len) (held cells.new len) }
     ensures swaps { Swaps (held cells.old len) (held cells.new len) i j }
-    ensures placed { Placed index (held cells.new len) (slots_of cells.new) }
-    ensures untouched { Untouched index (held cells.old len) cells.old cells.new }
+    ensures placed { Placed E.index (held cells.new len) (slots_of cells.new) }
+    ensures untouched { Untouched E.index (held cells.old len) cells.old cells.new }
 {
     let a = entry_at(cells, i);
     let b = entry_at(cells, j);
@@ -48,11 +48,11 @@ fn exchange<E: Slotted + Copy>(cells: &mut [Cell<E>], len: usize, i: usize, j: u
 // Moves the entry at `at` up, until its parent does not come after it.
 fn sift_up<E: Slotted + Copy>(cells: &mut [Cell<E>], len: usize, mut at: usize)
     requires within { (at < len) × (len ≤ length cells.old) }
-    requires placed { Placed index (held cells.old len) (slots_of cells.old) }
+    requires placed { Placed E.index (held cells.old len) (slots_of cells.old) }
     ensures shuffled { IsPermutation (held cells.old len) (held cells.new len) }
     ensures rises { Up E.Rank.lt (held cells.old len) at → Heap E.Rank.lt (held cells.new len) }
-    ensures placed { Placed index (held cells.new len) (slots_of cells.new) }
-    ensures untouched { Untouched index (held cells.old len) cells.old cells.new }
+    ensures placed { Placed E.index (held cells.new len) (slots_of cells.new) }
+    ensures untouched { Untouched E.index (held cells.old len) cells.old cells.new }
 {
     while 0 < at && ahead(cells, len, at, (at - 1) / 2) {
         exchange(cells, len, (at - 1) / 2, at);
@@ -77,11 +77,11 @@ fn first_child<E: Slotted + Copy>(cells: &[Cell<E>], len: usize, at: usize) -> u
 // Moves the entry at `at` down, until no child comes before it.
 fn sift_down<E: Slotted + Copy>(cells: &mut [Cell<E>], len: usize, mut at: usize)
     requires within { len ≤ length cells.old }
-    requires placed { Placed index (held cells.old len) (slots_of cells.old) }
+    requires placed { Placed E.index (held cells.old len) (slots_of cells.old) }
     ensures shuffled { IsPermutation (held cells.old len) (held cells.new len) }
     ensures sinks { Down E.Rank.lt (held cells.old len) at → Heap E.Rank.lt (held cells.new len) }
-    ensures placed { Placed index (held cells.new len) (slots_of cells.new) }
-    ensures untouched { Untouched index (held cells.old len) cells.old cells.new }
+    ensures placed { Placed E.index (held cells.new len) (slots_of cells.new) }
+    ensures untouched { Untouched E.index (held cells.old len) cells.old cells.new }
 {
     while at < len / 2 {
         let child = first_child(cells, len, at);
@@ -96,8 +96,8 @@ fn sift_down<E: Slotted + Copy>(cells: &mut [Cell<E>], len: usize, mut at: usize
 // Where the entry with the index k lies.
 pub fn find<E: Slotted + Copy>(cells: &[Cell<E>], len: usize, k: usize) -> Option<usize>
     requires within { (k < length cells.now) × (len ≤ length cells.now) }
-    requires placed { Placed index (held cells.now len) (slots_of cells.now) }
-    ensures { MatchOption result (Absent index (held cells.now len) k) (λ p. Present index (held cells.now len) k p) }
+    requires placed { Placed E.index (held cells.now len) (slots_of cells.now) }
+    ensures { MatchOption result (Absent E.index (held cells.now len) k) (λ p. Present E.index (held cells.now len) k p) }
 {
     let p = slot_at(cells, k);
     if p >= len {
@@ -113,13 +113,13 @@ pub fn find<E: Slotted + Copy>(cells: &[Cell<E>], len: usize, k: usize) -> Optio
 // Puts e in the place of the entry at p, which has the same index and does not come before e.
 fn lower<E: Slotted + Copy>(cells: &mut [Cell<E>], len: usize, p: usize, e: E)
     requires within { len ≤ length cells.old }
-    requires present { Present index (held cells.old len) (index e) p }
-    requires placed { Placed index (held cells.old len) (slots_of cells.old) }
+    requires present { Present E.index (held cells.old len) (E.index e) p }
+    requires placed { Placed E.index (held cells.old len) (slots_of cells.old) }
     requires lower { (d : E) → E.Rank.lt (slice_index_or (held cells.old len) p d) e ≡ false }
     ensures shuffled { IsPermutation (slice_set (held cells.old len) p e) (held cells.new len) }
     ensures heap { Heap E.Rank.lt (held cells.old len) → Heap E.Rank.lt (held cells.new len) }
-    ensures placed { Placed index (held cells.new len) (slots_of cells.new) }
-    ensures untouched { Untouched index (held cells.old len) cells.old cells.new }
+    ensures placed { Placed E.index (held cells.new len) (slots_of cells.new) }
+    ensures untouched { Untouched E.index (held cells.old len) cells.old cells.new }
 {
     put_entry(cells, p, e);
     sift_up(cells, len, p);
@@ -127,13 +127,13 @@ fn lower<E: Slotted + Copy>(cells: &mut [Cell<E>], len: usize, p: usize, e: E)
 
 // Adds e, whose index no entry has.
 pub fn push<E: Slotted + Copy>(cells: &mut [Cell<E>], len: usize, e: E)
-    requires within { (len < length cells.old) × (index e < length cells.old) }
-    requires placed { Placed index (held cells.old len) (slots_of cells.old) }
-    requires absent { Absent index (held cells.old len) (index e) }
+    requires within { (len < length cells.old) × (E.index e < length cells.old) }
+    requires placed { Placed E.index (held cells.old len) (slots_of cells.old) }
+    requires absent { Absent E.index (held cells.old len) (E.index e) }
     ensures adds { IsPermutation (e ∷ held cells.old len) (held cells.new (len + 1)) }
     ensures heap { Heap E.Rank.lt (held cells.old len) → Heap E.Rank.lt (held cells.new (len + 1)) }
-    ensures placed { Placed index (held cells.new (len + 1)) (slots_of cells.new) }
-    ensures untouched { Untouched index (e ∷ held cells.old len) cells.old cells.new }
+    ensures placed { Placed E.index (held cells.new (len + 1)) (slots_of cells.new) }
+    ensures untouched { Untouched E.index (e ∷ held cells.old len) cells.old cells.new }
 {
     put_entry(cells, len, e);
     let k = e.slot_index();
@@ -144,13 +144,13 @@ pub fn push<E: Slotted + Copy>(cells: &mut [Cell<E>], len: usize, e: E)
 // Takes the first entry out.
 pub fn pop<E: Slotted + Copy>(cells: &mut [Cell<E>], len: usize) -> E
     requires within { (0 < len) × (len ≤ length cells.old) }
-    requires placed { Placed index (held cells.old len) (slots_of cells.old) }
+    requires placed { Placed E.index (held cells.old len) (slots_of cells.old) }
     ensures takes { IsPermutation (held cells.old len) (result ∷ held cells.new (len - 1)) }
     ensures first { Heap E.Rank.lt (held cells.old len) → First E.Rank.lt result (held cells.old len) }
     ensures heap { Heap E.Rank.lt (held cells.old len) → Heap E.Rank.lt (held cells.new (len - 1)) }
-    ensures placed { Placed index (held cells.new (len - 1)) (slots_of cells.new) }
-    ensures free { Absent index (held cells.new (len - 1)) (index result) }
-    ensures untouched { Untouched index (held cells.old len) cells.old cells.new }
+    ensures placed { Placed E.index (held cells.new (len - 1)) (slots_of cells.new) }
+    ensures free { Absent E.index (held cells.new (len - 1)) (E.index result) }
+    ensures untouched { Untouched E.index (held cells.old len) cells.old cells.new }
 {
     let top = entry_at(cells, 0);
     let last = entry_at(cells, len - 1);
@@ -163,12 +163,12 @@ pub fn pop<E: Slotted + Copy>(cells: &mut [Cell<E>], len: usize) -> E
 
 // Puts e in the place of the entry with its index, if there is one and e comes before it.
 pub fn improve<E: Slotted + Copy>(cells: &mut [Cell<E>], len: usize, e: E) -> bool
-    requires within { (len ≤ length cells.old) × (index e < length cells.old) }
-    requires placed { Placed index (held cells.old len) (slots_of cells.old) }
-    ensures improved { Improved index E.Rank.lt (held cells.old len) e (held cells.new len) result }
+    requires within { (len ≤ length cells.old) × (E.index e < length cells.old) }
+    requires placed { Placed E.index (held cells.old len) (slots_of cells.old) }
+    ensures improved { Improved E.index E.Rank.lt (held cells.old len) e (held cells.new len) result }
     ensures heap { Heap E.Rank.lt (held cells.old len) → Heap E.Rank.lt (held cells.new len) }
-    ensures placed { Placed index (held cells.new len) (slots_of cells.new) }
-    ensures untouched { Untouched index (held cells.old len) cells.old cells.new }
+    ensures placed { Placed E.index (held cells.new len) (slots_of cells.new) }
+    ensures untouched { Untouched E.index (held cells.old len) cells.old cells.new }
 {
     let k = e.slot_index();
     let Some(p) = find(cells, len, k) else {

@@ -1,4 +1,6 @@
 // An agenda: entries in a total order, found by their index, in a slice that the caller lends.
+#![tactic(auto)]
+
 mod agenda;
 mod cells;
 mod entry;

@@ -15,15 +15,15 @@ impl<'a, E: Slotted + Copy> Agenda<'a, E> {
         ensures empty { entries result ≡ [] }
         ensures cells { result.cells.now ≡ cells.old }
         ensures named { result.cells.ghost_name ≡ cells.entry.ghost_name }
-        ensures sound { Sound E.Rank.lt index result }
+        ensures sound { Sound E.Rank.lt E.index result }
     {
         Agenda { cells, len: 0 }
     }
 
     // The entry of the index k.
     pub fn get(&self, k: usize) -> Option<E>
-        requires { Sound E.Rank.lt index self.now × (k < room self.now) }
-        ensures { MatchOption result (Absent index (entries self.now) k) (Holding index (entries self.now) k) }
+        requires { Sound E.Rank.lt E.index self.now × (k < room self.now) }
+        ensures { MatchOption result (Absent E.index (entries self.now) k) (Holding E.index (entries self.now) k) }
     {
         match find(self.cells, self.len, k) {
             Some(p) => Some(held_at(self.cells, self.len, p)),
@@ -33,8 +33,8 @@ impl<'a, E: Slotted + Copy> Agenda<'a, E> {
 
     // Whether an entry has the index k.
     pub fn has(&self, k: usize) -> bool
-        requires { Sound E.Rank.lt index self.now × (k < room self.now) }
-        ensures { MatchBool result ((e : E) × Holding index (entries self.now) k e) (Absent index (entries self.now) k) }
+        requires { Sound E.Rank.lt E.index self.now × (k < room self.now) }
+        ensures { MatchBool result ((e : E) × Holding E.index (entries self.now) k e) (Absent E.index (entries self.now) k) }
     {
         match self.get(k) {
             Some(_) => true,
@@ -44,14 +44,14 @@ impl<'a, E: Slotted + Copy> Agenda<'a, E> {
 
     // Adds e, whose index no entry has.
     pub fn push(&mut self, e: E)
-        requires sound { Sound E.Rank.lt index self.old }
-        requires within { index e < room self.old }
-        requires absent { Absent index (entries self.old) (index e) }
-        ensures sound { Sound E.Rank.lt index self.new }
+        requires sound { Sound E.Rank.lt E.index self.old }
+        requires within { E.index e < room self.old }
+        requires absent { Absent E.index (entries self.old) (E.index e) }
+        ensures sound { Sound E.Rank.lt E.index self.new }
         ensures room { room self.new ≡ room self.old }
         ensures named { self.new.cells.ghost_name ≡ self.old.cells.ghost_name }
         ensures pushed { Pushed e (entries self.old) (entries self.new) }
-        ensures untouched { (n : ℕ) → Bounded index (entries self.new) n → drop n (cells_of self.new) ≡ drop n (cells_of self.old) }
+        ensures untouched { (n : ℕ) → Bounded E.index (entries self.new) n → drop n (cells_of self.new) ≡ drop n (cells_of self.old) }
     {
         let len = self.len;
         push(self.cells, len, e);
@@ -60,13 +60,13 @@ impl<'a, E: Slotted + Copy> Agenda<'a, E> {
 
     // Takes the first entry out.
     pub fn pop(&mut self) -> Option<E>
-        requires { Sound E.Rank.lt index self.old }
-        ensures sound { Sound E.Rank.lt index self.new }
+        requires { Sound E.Rank.lt E.index self.old }
+        ensures sound { Sound E.Rank.lt E.index self.new }
         ensures room { room self.new ≡ room self.old }
         ensures named { self.new.cells.ghost_name ≡ self.old.cells.ghost_name }
         ensures len { MatchOption result (self.new.len ≡ self.old.len) (λ _. self.new.len + 1 ≡ self.old.len) }
-        ensures popped { Popped E.Rank.lt index result (entries self.old) (entries self.new) }
-        ensures untouched { (n : ℕ) → Bounded index (entries self.old) n → drop n (cells_of self.new) ≡ drop n (cells_of self.old) }
+        ensures popped { Popped E.Rank.lt E.index result (entries self.old) (entries self.new) }
+        ensures untouched { (n : ℕ) → Bounded E.index (entries self.old) n → drop n (cells_of self.new) ≡ drop n (cells_of self.old) }
     {
         let len = self.len;
         if len == 0 {
@@ -79,13 +79,13 @@ impl<'a, E: Slotted + Copy> Agenda<'a, E> {
 
     // Puts e in the place of the entry with its index, if there is one and e comes before it.
     pub fn improve(&mut self, e: E) -> bool
-        requires sound { Sound E.Rank.lt index self.old }
-        requires within { index e < room self.old }
-        ensures sound { Sound E.Rank.lt index self.new }
+        requires sound { Sound E.Rank.lt E.index self.old }
+        requires within { E.index e < room self.old }
+        ensures sound { Sound E.Rank.lt E.index self.new }
         ensures room { room self.new ≡ room self.old }
         ensures named { self.new.cells.ghost_name ≡ self.old.cells.ghost_name }
-        ensures improves { Improves E.Rank.lt index e (entries self.old) (entries self.new) result }
-        ensures untouched { (n : ℕ) → Bounded index (entries self.old) n → drop n (cells_of self.new) ≡ drop n (cells_of self.old) }
+        ensures improves { Improves E.Rank.lt E.index e (entries self.old) (entries self.new) result }
+        ensures untouched { (n : ℕ) → Bounded E.index (entries self.old) n → drop n (cells_of self.new) ≡ drop n (cells_of self.old) }
     {
         let len = self.len;
         improve(self.cells, len, e)

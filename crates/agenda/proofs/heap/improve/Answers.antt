@@ -15,8 +15,8 @@ returns-then-not-before g c =
       improved = (
         refl,
         λ q d l e.
-            let z : q ≡ c.in-Some.p = moves.apart (λ i. ix (get_or xs i d)) (slots_of a.cells.now) (length xs) (c.requires.placed d) q c.in-Some.p l here.0 (e ∙ sym c.slot-index-k.ensures ∙ sym (here.1 d)) in
-            ap (λ j. lt a.e (get_or xs j d)) z ∙ ap (lt a.e) (sym (c.held-at-old.ensures d)) ∙ sym c.if-not-before.ensures,
+            let z : q ≡ c.in-Some.p = moves.apart (λ i. ix (get_or xs i d)) (slots_of a.cells.now) (length xs) (c.requires.placed d) q c.in-Some.p l here.0 (e ∙ sym c.slot_index-k.ensures ∙ sym (here.1 d)) in
+            ap (λ j. lt a.e (get_or xs j d)) z ∙ ap (lt a.e) (sym (c.held_at-old.ensures d)) ∙ sym c.if-not-before.ensures,
       );
       heap = λ h. h;
       placed = c.requires.placed;
@@ -29,7 +29,7 @@ returns g c =
     let lt = g.E.Rank.lt in
     let here = c.in-Some.ensures in
     record {
-      improved = (c.in-Some.p, (here.0, λ d. here.1 d ∙ c.slot-index-k.ensures), λ d. ap (lt a.e) (sym (c.held-at-old.ensures d)) ∙ sym c.if-not-before.ensures, c.lower.ensures.shuffled);
+      improved = (c.in-Some.p, (here.0, λ d. here.1 d ∙ c.slot_index-k.ensures), λ d. ap (lt a.e) (sym (c.held_at-old.ensures d)) ∙ sym c.if-not-before.ensures, c.lower.ensures.shuffled);
       heap = c.lower.ensures.heap;
       placed = c.lower.ensures.placed;
       untouched = c.lower.ensures.untouched;

@@ -8,7 +8,7 @@ use Rattle.agenda.proofs.heap.sift_down.Goals as goal
 pub returns-then-not-ahead : goal.returns-then-not-ahead
 returns-then-not-ahead g c =
     let l = c.loop-at in
-    let child = c.first-child-child in
+    let child = c.first_child-child in
     let xs = held l.cells c.args.len in
     record {
       shuffled = l.invariant.0;
@@ -20,7 +20,7 @@ returns-then-not-ahead g c =
 pub loop-at-preserved : goal.loop-at-preserved
 loop-at-preserved g c =
     let l = c.loop-at in
-    let child = c.first-child-child in
+    let child = c.first_child-child in
     let w = c.exchange in
     let n = c.args.len in
     let xs = held l.cells n in

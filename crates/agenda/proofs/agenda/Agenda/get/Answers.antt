@@ -4,5 +4,5 @@ use Rattle.agenda.proofs.agenda.Agenda.get.Goals as goal
 pub returns-in-Some : goal.returns-in-Some
 returns-in-Some g c =
     let at = c.in-Some.ensures in
-    let e = c.held-at.result in
-    ((c.in-Some.p, at.0, λ d. sym (c.held-at.ensures d)), ap g.E.Slotted.index (c.held-at.ensures e) ∙ at.1 e)
+    let e = c.held_at.result in
+    ((c.in-Some.p, at.0, λ d. sym (c.held_at.ensures d)), ap g.E.Slotted.index (c.held_at.ensures e) ∙ at.1 e)
