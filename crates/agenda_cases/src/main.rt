@@ -1,4 +1,6 @@
 // Two agendas over entries of different kinds, and one inside a longer slice.
+#![tactic(auto)]
+
 mod entries;
 mod uses;
 

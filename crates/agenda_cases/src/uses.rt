@@ -8,10 +8,10 @@ use agenda::{Agenda, Cell, Rank, Slotted};
 
 // Sees to it that the entry with e's index does not come after e.
 pub fn offer<E: Slotted + Copy>(a: &mut Agenda<E>, e: E)
-    requires { Sound E.Rank.lt index a.old × (index e < room a.old) }
-    ensures sound { Sound E.Rank.lt index a.new }
+    requires { Sound E.Rank.lt E.index a.old × (E.index e < room a.old) }
+    ensures sound { Sound E.Rank.lt E.index a.new }
     ensures room { room a.new ≡ room a.old }
-    ensures offered { Offered E.Rank.lt index e (entries a.old) (entries a.new) }
+    ensures offered { Offered E.Rank.lt E.index e (entries a.old) (entries a.new) }
 {
     let k = e.slot_index();
     if a.has(k) {
