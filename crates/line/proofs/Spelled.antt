@@ -1,7 +1,7 @@
 -- One call more in a run: the history that the calls spell, what is held, and the counts.
 use Rattle.std.proofs.Common.{◌≡◌, ℕ, ◌+◌, ◌<◌, ◌≤◌, List, [], ◌∷◌, ◌++◌, length, get_or, take, refl, ap, ◌∙◌, subst, arith}
 use Rattle.std.proofs.lemmas.List.{take_more, take_all}
-use Rattle.line.specs.Stops.{Told, Done, Stop}
+use Rattle.line.specs.Stops.{Done, Stop}
 use Rattle.line.specs.Runs.{Past, OfLine, OfPhrase, Reply, Made, WhileSealed, WhileOpen, HeldOf, keyed_in, content_of, replied, made, made_all, spelled, stops_in, calls_in, stop_count, skip_count}
 use Rattle.line.specs.declared.run.Call.{Call}
 use Rattle.line.specs.declared.run.Call.TheVariants.{Key, Rub, Wipe, Seal, Reopen}

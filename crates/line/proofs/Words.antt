@@ -1,5 +1,5 @@
 -- What is written of a stop, piece by piece, is its words.
-use Rattle.std.proofs.Common.{◌≡◌, ℕ, List, ◌++◌, codes, decimal, refl, ap, ◌∙◌}
+use Rattle.std.proofs.Common.{◌≡◌, ℕ, ◌++◌, codes, decimal}
 use Rattle.std.specs.Fmt.{digits}
 use Rattle.line.specs.Stops.{number_of, figure_of, words_of}
 use Rattle.line.specs.declared.stop.LineStop.{LineStop}

@@ -1,4 +1,6 @@
 // The line that is keyed token by token, and the phrase that it is sealed into.
+#![tactic(auto)]
+
 pub mod line;
 pub mod run;
 pub mod stop;

@@ -21,7 +21,7 @@ fn a_rub_on_no_token_is_stopped(rt: HostRuntime) {
     assert_eq!(rt; line.key(65535), Ok(()));
     assert_eq!(rt; line.rub(), Ok(()));
     assert_eq!(rt; line.rub(), Err(LineStop::Empty));
-    assert_eq!(rt; line.tokens(), &[]);
+    assert_eq!(rt; line.tokens(), [].as_slice());
 }
 
 #[test]
@@ -30,11 +30,11 @@ fn a_seal_keeps_the_tokens_and_a_wipe_drops_them(rt: HostRuntime) {
     assert_eq!(rt; line.key(10), Ok(()));
     assert_eq!(rt; line.key(20), Ok(()));
     let phrase = line.seal();
-    assert_eq!(rt; phrase.tokens(), &[10, 20]);
+    assert_eq!(rt; phrase.tokens(), [10, 20].as_slice());
     let mut line = phrase.reopen();
-    assert_eq!(rt; line.tokens(), &[10, 20]);
+    assert_eq!(rt; line.tokens(), [10, 20].as_slice());
     line.wipe();
-    assert_eq!(rt; line.tokens(), &[]);
+    assert_eq!(rt; line.tokens(), [].as_slice());
 }
 
 #[test]
@@ -54,7 +54,7 @@ fn a_run_skips_what_its_mode_has_not(rt: HostRuntime) -> Result<(), Fail> {
     match ran.held {
         Held::Open(_) => Err(Fail::new("the line is open")),
         Held::Sealed(phrase) => {
-            assert_eq!(rt; phrase.tokens(), &[10, 20]);
+            assert_eq!(rt; phrase.tokens(), [10, 20].as_slice());
             Ok(())
         },
     }
