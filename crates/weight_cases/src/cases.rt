@@ -6,7 +6,7 @@ use weight::weight::{Weight, WeightNumber};
 
 // The combination of the weights of two numbers.
 pub fn pair<W: Weight>(m: WeightNumber, n: WeightNumber) -> Option<W>
-    ensures { Paired algebra exact result m n }
+    ensures { Paired W.algebra W.exact result m n }
 {
     let a = W::take(m)?;
     let b = W::take(n)?;
@@ -15,7 +15,7 @@ pub fn pair<W: Weight>(m: WeightNumber, n: WeightNumber) -> Option<W>
 
 // The number that a weight shows, or 0 for nothing.
 pub fn shown<W: Weight>(w: Option<W>) -> u32
-    ensures { Shown algebra exact w result }
+    ensures { Shown W.algebra W.exact w result }
 {
     match w {
         Some(v) => v.show(),

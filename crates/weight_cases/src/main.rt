@@ -1,4 +1,6 @@
 // The weight kinds at their edges, and a third kind whose exact weights are not numbers.
+#![tactic(auto)]
+
 mod cases;
 mod graded;
 

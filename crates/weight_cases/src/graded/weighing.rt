@@ -33,9 +33,9 @@ impl Weight for Graded {
 
     ghost nothing = { no_grade };
 
-    ghost lawful = { first_of (Prim.search rules, Prim.grind (arith, Self.row.coded.inj)) };
+    ghost lawful = { Prim.search rules };
 
-    ghost within = { first_of (Prim.search rules, Prim.grind (arith, Self.row.coded.inj)) };
+    ghost within = { Prim.search rules };
 
     ghost held = { λ e h.
         let small : sum_of e ≤ most_grade = elim (cases_lt most_grade (sum_of e)) [ inl l ↦ absurd (h (inl (omega arith))) | inr l ↦ omega arith ] in
@@ -43,7 +43,7 @@ impl Weight for Graded {
 
     ghost same = { λ v w h. graded_same v w (ap (λ e. e.first) h) (ap (λ e. e.second) h) };
 
-    ghost empty = { first_of (Prim.search rules, Prim.grind (arith, Self.row.coded.inj)) };
+    ghost empty = { refl };
 
     fn kind_number() -> u8 {
         Self::KIND
