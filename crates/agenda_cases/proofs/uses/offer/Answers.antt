@@ -10,20 +10,20 @@ module _ {X : Type 0} (lt : X → X → Bool) (order : Ordered lt) (ix : X → �
   itself true h = order.one_way e e h
   itself false h = h
 
-  by-improve : (r : Bool) → ((x : X) × Holding ix xs (ix e) x) → Improves lt ix e xs ys r → Offered lt ix e xs ys
-  by-improve true h t = record {
+  by_improve : (r : Bool) → ((x : X) × Holding ix xs (ix e) x) → Improves lt ix e xs ys r → Offered lt ix e xs ys
+  by_improve true h t = record {
     found = (e, t.new, refl, itself _ refl);
     kept = t.kept;
     only = λ x m other. elim (t.only x m) [ inl z ↦ absurd (other (ap ix z)) | inr p ↦ p.0 ];
   }
-  by-improve false h t = record {
+  by_improve false h t = record {
     found = (h.0, subst (λ l. Has l h.0) (sym t.0) h.1.0, h.1.1, t.1 h.0 h.1.0 h.1.1);
     kept = λ x m other. subst (λ l. Has l x) (sym t.0) m;
     only = λ x m other. subst (λ l. Has l x) t.0 m;
   }
 
-  by-push : Pushed e xs ys → Offered lt ix e xs ys
-  by-push t = record {
+  by_push : Pushed e xs ys → Offered lt ix e xs ys
+  by_push t = record {
     found = (e, t.new, refl, itself _ refl);
     kept = λ x m other. t.kept x m;
     only = λ x m other. elim (t.only x m) [ inl z ↦ absurd (other (ap ix z)) | inr p ↦ p ];
@@ -36,7 +36,7 @@ returns-then-has g c =
     record {
       sound = told.sound;
       room = told.room;
-      offered = by-improve g.E.Rank.lt g.met.E.Rank.order g.E.Slotted.index c.args.e (entries c.args.a.now) (entries c.improve.new.self) c.improve.result
+      offered = by_improve g.E.Rank.lt g.met.E.Rank.order g.E.Slotted.index c.args.e (entries c.args.a.now) (entries c.improve.new.self) c.improve.result
           (was.0, (was.1.0, was.1.1 ∙ c.slot_index-k.ensures)) told.improves;
     }
 
@@ -46,5 +46,5 @@ returns-else-has g c =
     record {
       sound = told.sound;
       room = told.room;
-      offered = by-push g.E.Rank.lt g.met.E.Rank.order g.E.Slotted.index c.args.e (entries c.args.a.now) (entries c.push.new.self) told.pushed;
+      offered = by_push g.E.Rank.lt g.met.E.Rank.order g.E.Slotted.index c.args.e (entries c.args.a.now) (entries c.push.new.self) told.pushed;
     }

@@ -32,7 +32,7 @@ returns g c =
     let more : length ys ≡ length (e ∷ xs) = length_permutation (e ∷ xs) ys told.adds in
     let deep = length-map cells (λ x. x.slot) in
     let front = held_length cells a.len sound.within in
-    let more_Room = space ix e xs (slots_of cells) sound.placed (omega arith) c.requires.absent in
+    let more_room = space ix e xs (slots_of cells) sound.placed (omega arith) c.requires.absent in
     record {
       sound = record { within = omega arith; heap = told.heap sound.heap; placed = told.placed };
       room = long;
