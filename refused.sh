@@ -1,6 +1,6 @@
 #!/bin/sh
 # Programs that the compiler must refuse before any proof. Each edit of refused/ is made to a copy of the
-# sources, whose check must then end at once, with the error of the edit's 'says:' line and no other.
+# sources, whose `rt check` must then end at once, with the error of the edit's 'says:' line and no other.
 # (A must-fail edit has to reach the prover, so none can show this.)
 #
 # An edit has five lines: 'crate: NAME', 'file: PATH' in that crate, 'old: TEXT', which stands once in the
@@ -11,6 +11,7 @@ set -eu
 root=$(cd "$(dirname "$0")" && pwd)
 copy=$(mktemp -d)
 trap 'rm -rf "$copy"' EXIT
+trap 'exit 1' HUP INT TERM
 field() { sed -n "s/^$1: //p" "$edit"; }
 tried=0 failed=0
 fail() { echo "FAILED ${edit##*/}: $1"; failed=$((failed + 1)); }
@@ -22,8 +23,16 @@ for edit in "$root"/refused/*.edit; do
         fail "a line is missing"
         continue
     fi
-    rm -rf "$copy/repository" && mkdir "$copy/repository"
-    cp -r "$root/crates" "$root/crates.txt" "$copy/repository/"
+    # What a crate's check reads, and nothing of what an earlier one wrote.
+    rm -rf "$copy/repository"
+    for folder in "$root"/crates/*/; do
+        into=$copy/repository/crates/$(basename "$folder")
+        mkdir -p "$into"
+        for part in src specs proofs; do
+            [ ! -d "$folder$part" ] || cp -r "$folder$part" "$into/"
+        done
+    done
+    cp "$root/crates.txt" "$copy/repository/"
     if ! OLD=$(field old) NEW=$(field new) awk '
         { text = text $0 "\n" }
         END {
@@ -35,7 +44,7 @@ for edit in "$root"/refused/*.edit; do
         continue
     fi
     mv "$copy/edited" "$copy/repository/crates/$crate/$file"
-    if (cd "$copy/repository" && rt dev "$crate") >"$copy/log" 2>&1; then
+    if (cd "$copy/repository/crates/$crate" && rt check) >"$copy/log" 2>&1; then
         fail "the compiler takes it"
         continue
     fi
