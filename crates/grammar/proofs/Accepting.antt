@@ -1,13 +1,13 @@
 -- The pack of a well-formed grammar loads to that grammar.
-use Rattle.std.proofs.Common.{◌≡◌, ℕ, zero, suc, ◌+◌, ◌-◌, ◌<◌, ◌≤◌, Bool, true, false, cond, ◌&&◌, eqb, ltb, leb, List, [], ◌∷◌, ◌++◌, length, get_or, Ok, Err, Result, sym, refl, ap, ◌∙◌, subst, ap₂, append_assoc, append-nil, arith, length-append}
+use Rattle.std.proofs.Common.{◌≡◌, ℕ, zero, suc, ◌+◌, ◌<◌, ◌≤◌, Bool, true, false, cond, ◌&&◌, eqb, ltb, leb, List, [], ◌∷◌, ◌++◌, length, Ok, Err, Result, sym, refl, ap, ◌∙◌, subst, ap₂, append_assoc, append-nil, arith, length-append}
 use Rattle.std.proofs.lemmas.Bool.{cond-true, and_from, lt-ltb, le-leb, eq-eqb}
 use Rattle.grammar.specs.declared.symbol.Symbol.TheVariants as symbol
 use Rattle.grammar.specs.Grammars.{Symbol, ProductionModel, GrammarModel, dimension}
-use Rattle.grammar.specs.Formed.{Each, OneOrTwo, PartFormed, SymbolFormed, ConstituentFormed, Named, ProductionFormed, WellFormed}
-use Rattle.grammar.specs.Encoding.{categories_bytes, symbol_bytes, symbols_bytes, constituents_bytes, production_bytes, productions_bytes, encode}
+use Rattle.grammar.specs.Formed.{Each, OneOrTwo, SymbolFormed, ConstituentFormed, ProductionFormed, WellFormed}
+use Rattle.grammar.specs.Encoding.{categories_bytes, symbols_bytes, constituents_bytes, production_bytes, productions_bytes, encode}
 use Rattle.grammar.specs.Commands.{Command, Kind, Category, Start, Production, Constituent, Token, Part, End, size, is_end}
-use Rattle.grammar.specs.Drafts.{Stage, Fresh, Categories, Between, Head, Body, Opened, Draft, none_opened, blank, open_production, productions_so_far, apply, model_of}
-use Rattle.grammar.specs.Checks.{has_some, all, complete, filled, names_all, all_named, in_limits, past_start, allowed, start_fits, operands_fit, part_fits, production_fits}
+use Rattle.grammar.specs.Drafts.{Stage, Fresh, Categories, Between, Head, Body, Opened, Draft, none_opened, blank, productions_so_far, apply, model_of}
+use Rattle.grammar.specs.Checks.{has_some, all, filled, names_all, all_named, in_limits, past_start, allowed, start_fits, operands_fit, production_fits}
 pub use Rattle.grammar.specs.Checks.{Passes}
 use Rattle.grammar.specs.Stops.{Stop, stop_at, Grammar}
 use Rattle.grammar.specs.Loads.{Outcome, need, step, finish, after_step, after_next, run, load_of}

@@ -1,5 +1,5 @@
 -- What the answer of a load means, once it is the one that is defined.
-use Rattle.std.proofs.Common.{◌≡◌, ℕ, ◌↔◌, List, Ok, Err, Result, sym, ap, ◌∙◌, arith, MatchResult}
+use Rattle.std.proofs.Common.{◌≡◌, ℕ, List, Ok, Err, Result, sym, ap, ◌∙◌, arith, MatchResult}
 use Rattle.grammar.specs.declared.held.Grammar.{Grammar}
 use Rattle.grammar.specs.Grammars.{GrammarModel}
 use Rattle.grammar.specs.Formed.{WellFormed}
@@ -7,7 +7,6 @@ use Rattle.grammar.specs.Encoding.{encode}
 use Rattle.grammar.specs.Commands.{Bytes}
 use Rattle.grammar.specs.Stops.{PackStop, Stop, told}
 use Rattle.grammar.specs.Loads.{Outcome, load_of}
-use Rattle.grammar.specs.Stopping.{Stopped}
 use Rattle.grammar.specs.Model.{model}
 use Rattle.grammar.specs.Theorems.{Loaded, Packing}
 use Rattle.grammar.proofs.Accepting.{packs_load}

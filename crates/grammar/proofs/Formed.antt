@@ -1,5 +1,5 @@
 -- The test of well-formedness says what it should.
-use Rattle.std.proofs.Common.{◌≡◌, ℕ, ◌-◌, ◌<◌, Bool, true, ◌&&◌, ltb, leb, List, [], ◌∷◌, length, get_or, refl}
+use Rattle.std.proofs.Common.{◌≡◌, ℕ, ◌-◌, ◌<◌, Bool, true, ltb, leb, List, length, get_or}
 use Rattle.std.proofs.lemmas.Bool.{and_from, ltb-true, leb-true, eqb-true, lt-ltb, le-leb, eq-eqb}
 use Rattle.grammar.specs.declared.symbol.Symbol.TheVariants as symbol
 use Rattle.grammar.specs.Grammars.{Symbol, ProductionModel, GrammarModel, dimension}

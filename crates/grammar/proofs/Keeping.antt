@@ -1,15 +1,15 @@
 -- What a load has read so far is sound, and it is written in the bytes that were read.
-use Rattle.std.proofs.Common.{◌≡◌, ℕ, zero, suc, ◌+◌, ◌-◌, ◌/◌, ◌%◌, ◌<◌, ◌≤◌, Bool, true, false, cond, ◌&&◌, eqb, ltb, leb, List, [], ◌∷◌, ◌++◌, length, get_or, take, sym, refl, ap, ◌∙◌, subst, ap₂, append_assoc, append-nil, arith, length-append}
+use Rattle.std.proofs.Common.{◌≡◌, ℕ, zero, suc, ◌/◌, ◌%◌, ◌<◌, ◌≤◌, true, false, ◌&&◌, eqb, ltb, leb, List, [], ◌∷◌, ◌++◌, length, take, sym, refl, ap, ◌∙◌, subst, ap₂, append_assoc, append-nil, arith}
 use mathlib.Core.Bool.{false≢true}
 use Rattle.std.proofs.lemmas.Bool.{ltb-true, leb-true, eqb-true}
 use Rattle.grammar.specs.declared.symbol.Symbol.TheVariants as symbol
-use Rattle.grammar.specs.Grammars.{Symbol, ProductionModel, GrammarModel, dimension}
-use Rattle.grammar.specs.Formed.{Each, OneOrTwo, PartFormed, SymbolFormed, ConstituentFormed, Named, ProductionFormed, WellFormed}
+use Rattle.grammar.specs.Grammars.{Symbol, ProductionModel, dimension}
+use Rattle.grammar.specs.Formed.{Each, OneOrTwo, SymbolFormed, ConstituentFormed, ProductionFormed, WellFormed}
 use Rattle.grammar.specs.Encoding.{categories_bytes, symbol_bytes, symbols_bytes, constituents_bytes, arguments_bytes, production_bytes, productions_bytes, encode}
-use Rattle.grammar.specs.Commands.{Command, Kind, Category, Start, Production, Constituent, Token, Part, End, size, is_end}
+use Rattle.grammar.specs.Commands.{Command, Kind, Category, Start, Production, Constituent, Token, Part, End, is_end}
 use Rattle.grammar.specs.Drafts.{Stage, Fresh, Categories, Between, Head, Body, Opened, Draft, constituents_so_far, open_production, productions_so_far, apply, model_of}
-use Rattle.grammar.specs.Checks.{has_some, all, complete, filled, names_all, all_named, past_start, argument_fits, part_fits}
-use Rattle.grammar.proofs.Each.{each_at, each_push, each_last, length_push}
+use Rattle.grammar.specs.Checks.{has_some, all, complete, filled, names_all, all_named, past_start, argument_fits}
+use Rattle.grammar.proofs.Each.{each_push, each_last, length_push}
 use Rattle.grammar.proofs.Tests.{and_both, some_is, all_is}
 use Rattle.grammar.proofs.Naming.{names_are}
 use Rattle.grammar.proofs.Formed.{part_is}

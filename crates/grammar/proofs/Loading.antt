@@ -1,10 +1,10 @@
 -- What loads is the pack of a well-formed grammar.
-use Rattle.std.proofs.Common.{◌≡◌, ℕ, zero, suc, ◌+◌, Bool, true, false, cond, List, [], ◌∷◌, ◌++◌, length, Ok, Err, Result, sym, refl, ap, ◌∙◌, subst, ap₂, append_assoc, append-nil}
+use Rattle.std.proofs.Common.{◌≡◌, ℕ, zero, suc, ◌+◌, Bool, true, false, List, [], ◌∷◌, ◌++◌, length, Ok, Err, Result, sym, refl, ap, ◌∙◌, subst, append_assoc}
 use Rattle.std.proofs.lemmas.Bool.{cond_both}
 use Rattle.grammar.specs.Grammars.{GrammarModel}
 use Rattle.grammar.specs.Formed.{WellFormed}
 use Rattle.grammar.specs.Encoding.{encode}
-use Rattle.grammar.specs.Commands.{Command, Kind, Category, Start, Production, Constituent, Token, Part, End, Unread, Incomplete, Unknown, Next, next_of, size, is_end}
+use Rattle.grammar.specs.Commands.{Command, Kind, Category, Start, Production, Constituent, Token, Part, End, Next, next_of, size, is_end}
 use Rattle.grammar.specs.Drafts.{Stage, Fresh, Draft, blank, apply, model_of}
 use Rattle.grammar.specs.Checks.{filled, all_named, in_limits, allowed, start_fits, operands_fit}
 use Rattle.grammar.specs.Stops.{Stop, stop_at, Grammar}
@@ -12,7 +12,7 @@ use Rattle.grammar.specs.Loads.{Outcome, need, step, finish, after_step, after_n
 use Rattle.grammar.specs.Commands.{Bytes}
 use Rattle.grammar.proofs.Reading.{bytes, Fits, Read, reads}
 use Rattle.grammar.proofs.Accepting.{Passes}
-use Rattle.grammar.proofs.Keeping.{Sound, Written, Moved, moved, ended}
+use Rattle.grammar.proofs.Keeping.{Sound, Written, moved, ended}
 
 abbrev Good : List ℕ → Outcome → Type 0
 Good p (Err e) = Unit {0}

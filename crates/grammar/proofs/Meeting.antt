@@ -1,5 +1,5 @@
 -- A pack with a reason to be stopped is stopped by it.
-use Rattle.std.proofs.Common.{◌≡◌, ℕ, ◌+◌, Bool, true, false, ◌↔◌, List, [], ◌∷◌, ◌++◌, length, Ok, Err, Result, sym, refl, ap, ◌∙◌, subst, append_assoc, length-append}
+use Rattle.std.proofs.Common.{◌≡◌, ℕ, ◌+◌, Bool, true, false, ◌↔◌, List, ◌∷◌, ◌++◌, length, Err, Result, sym, refl, ap, ◌∙◌, append_assoc, length-append}
 use Rattle.std.proofs.lemmas.Bool.{cond-true, cond-false}
 use Rattle.grammar.specs.Stops.{Stop, stop_at, Grammar}
 use Rattle.grammar.specs.Commands.{Command, End, Incomplete, Unknown, next_of, size, bytes}

@@ -1,11 +1,11 @@
 -- The test of naming says what it should.
-use Rattle.std.proofs.Common.{◌≡◌, ℕ, suc, ◌<◌, true, eqb, List, length, get_or, refl, ap, ◌∙◌, ap₂}
+use Rattle.std.proofs.Common.{◌≡◌, ℕ, suc, true, eqb, List, length, get_or, refl, ap, ◌∙◌, ap₂}
 use mathlib.Core.Bool.{false≢true}
 use Rattle.std.proofs.lemmas.Bool.{and_from, eqb-true, eq-eqb}
 use Rattle.grammar.specs.declared.symbol.Symbol.TheVariants as symbol
 use Rattle.grammar.specs.Grammars.{Symbol, dimension}
 use Rattle.grammar.specs.Formed.{Some, Named, AllNamed}
-use Rattle.grammar.specs.Checks.{any, all_below, is_part, named, names_all}
+use Rattle.grammar.specs.Checks.{any, is_part, named, names_all}
 use Rattle.grammar.proofs.Tests.{and_both, any_is, is_any, below_is, is_below}
 
 part_is : (k l : ℕ) (s : Symbol) → is_part k l s ≡ true → s ≡ symbol.Part k l

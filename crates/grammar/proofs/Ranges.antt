@@ -1,7 +1,7 @@
 -- The pack of a well-formed grammar is bytes.
-use Rattle.std.proofs.Common.{◌≡◌, ℕ, zero, suc, ◌+◌, ◌-◌, ◌/◌, ◌%◌, ◌<◌, ◌≤◌, List, [], ◌∷◌, ◌++◌, length, get_or, sym, refl, ap, ◌∙◌, subst, arith}
+use Rattle.std.proofs.Common.{ℕ, ◌-◌, ◌/◌, ◌%◌, ◌<◌, ◌≤◌, List, [], ◌∷◌, ◌++◌, length, get_or, arith}
 use Rattle.grammar.specs.declared.symbol.Symbol.TheVariants as symbol
-use Rattle.grammar.specs.Grammars.{Symbol, ProductionModel, GrammarModel, dimension}
+use Rattle.grammar.specs.Grammars.{Symbol, ProductionModel, GrammarModel}
 use Rattle.grammar.specs.Formed.{Each, OneOrTwo, SymbolFormed, ConstituentFormed, ProductionFormed, WellFormed}
 use Rattle.grammar.specs.Encoding.{categories_bytes, symbol_bytes, symbols_bytes, constituents_bytes, arguments_bytes, production_bytes, productions_bytes, encode}
 use Rattle.grammar.specs.Commands.{Bytes}

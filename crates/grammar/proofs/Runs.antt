@@ -1,7 +1,7 @@
 -- One command of a whole load, and that a longer allowance changes nothing: what a loop over the commands cites.
-use Rattle.std.proofs.Common.{◌≡◌, ℕ, zero, suc, ◌+◌, ◌<◌, ◌≤◌, Bool, true, false, cond, eqb, List, [], ◌∷◌, length, Ok, Err, Result, sym, refl, ap, ◌∙◌, subst, arith}
+use Rattle.std.proofs.Common.{◌≡◌, ℕ, zero, suc, ◌+◌, ◌<◌, ◌≤◌, true, false, cond, eqb, List, [], ◌∷◌, length, Ok, Err, Result, refl, ap, ◌∙◌, subst, arith}
 use Rattle.std.proofs.lemmas.Bool.{cond_both}
-use Rattle.grammar.specs.Commands.{Command, Kind, Category, Start, Production, Constituent, Token, Part, End, Unread, Incomplete, Unknown, Next, one, two, seven, production_of, token_of, next_of, size, is_end}
+use Rattle.grammar.specs.Commands.{Command, Kind, Category, Start, Production, Constituent, Token, Part, End, Unread, Next, one, two, seven, production_of, token_of, next_of, size, is_end}
 use Rattle.grammar.specs.Drafts.{Stage, Draft}
 use Rattle.grammar.specs.Stops.{Stop}
 use Rattle.grammar.specs.Loads.{Outcome, step, finish, after_step, unread, after_next, run}

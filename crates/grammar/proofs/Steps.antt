@@ -1,13 +1,12 @@
 -- One command, seen from the code: what its tests say of the checks.
-use Rattle.std.proofs.Common.{◌≡◌, ℕ, zero, suc, ◌+◌, ◌<◌, ◌≤◌, Bool, true, false, ◌&&◌, eqb, ltb, leb, List, [], ◌∷◌, ◌++◌, length, get_or, take, Ok, Err, sym, refl, ap, ◌∙◌, subst, ap₂, inl, inr, arith}
+use Rattle.std.proofs.Common.{◌≡◌, ℕ, zero, suc, ◌<◌, ◌≤◌, Bool, true, false, ◌&&◌, eqb, ltb, List, [], ◌∷◌, ◌++◌, length, get_or, sym, refl, ap, ◌∙◌, inl, inr, arith}
 use mathlib.Core.Bool.{false≢true}
-use Rattle.std.proofs.lemmas.List.{get_or_past, length_push}
-use Rattle.std.proofs.lemmas.Bool.{and_from, lt-ltb, le-ltb, le-leb, lt-leb, eq-eqb, cases_Bool, ltb-false, ltb-true, both_ways}
+use Rattle.std.proofs.lemmas.List.{get_or_past}
+use Rattle.std.proofs.lemmas.Bool.{and_from, le-leb, lt-leb, eq-eqb, cases_Bool, ltb-false}
 use Rattle.grammar.specs.Grammars.{ProductionModel, dimension}
-use Rattle.grammar.specs.Stops.{stop_at, Grammar}
 use Rattle.grammar.specs.Commands.{Command, Kind, Category, Start, Production, Constituent, Token, Part, End, closes}
-use Rattle.grammar.specs.Drafts.{Stage, Between, Body, Draft, productions_so_far, shut_draft, apply}
-use Rattle.grammar.specs.Checks.{has_some, all, fills_all, filled, all_named, past_start, production_fits}
+use Rattle.grammar.specs.Drafts.{Stage, Between, Draft, productions_so_far, shut_draft}
+use Rattle.grammar.specs.Checks.{has_some, all, fills_all, filled, all_named, past_start}
 use Rattle.grammar.specs.Loads.{need, step}
 use Rattle.grammar.proofs.Meeting.{met}
 
@@ -19,12 +18,6 @@ module _ (dimensions : List ℕ) (r : ProductionModel) (b : Bool) where
   fills_no h e = e ∙ ap (λ x. x && all has_some r.constituents) (sym (lt-leb (dimension dimensions r.category) (length r.constituents) h))
 
 -- one dimension more
-pub low_push : (xs : List ℕ) (d : ℕ) → ((c : ℕ) → get_or xs c 0 ≤ 2) → d ≤ 2 → (c : ℕ) → get_or (xs ++ d ∷ []) c 0 ≤ 2
-low_push [] d h l zero = l
-low_push [] d h l (suc c) = omega arith
-low_push (x ∷ xs) d h l zero = h zero
-low_push (x ∷ xs) d h l (suc c) = low_push xs d (λ i. h (suc i)) l c
-
 -- a category of dimension 1 is known
 pub single_known : (ds : List ℕ) (x : ℕ) → dimension ds x ≡ 1 → (ltb x (length ds) && eqb (dimension ds x) 1) ≡ true
 single_known ds x e =

@@ -1,11 +1,11 @@
 -- Each stop has its reason.
-use Rattle.std.proofs.Common.{◌≡◌, ℕ, zero, suc, ◌+◌, ◌<◌, ◌≤◌, Bool, true, false, cond, List, [], ◌∷◌, ◌++◌, length, Ok, Err, Result, sym, refl, ap, ◌∙◌, subst, append_assoc, arith, length-append}
+use Rattle.std.proofs.Common.{◌≡◌, ℕ, zero, suc, ◌+◌, ◌≤◌, false, List, [], ◌∷◌, ◌++◌, length, Ok, Err, Result, sym, refl, ap, ◌∙◌, subst, append_assoc, arith, length-append}
 use Rattle.std.proofs.lemmas.Bool.{cond_both}
-use Rattle.grammar.specs.Commands.{Command, Kind, Category, Start, Production, Constituent, Token, Part, End, Unread, Incomplete, Unknown, Next, next_of, size, is_end, bytes}
+use Rattle.grammar.specs.Commands.{Command, Kind, Category, Start, Production, Constituent, Token, Part, End, Incomplete, Unknown, Next, next_of, size, is_end, bytes}
 use Rattle.grammar.specs.Drafts.{Stage, Fresh, Draft, blank, apply}
 use Rattle.grammar.specs.Checks.{filled, all_named, in_limits, allowed, start_fits, operands_fit, Passes}
 use Rattle.grammar.specs.Stops.{Stop, stop_at, Grammar}
-use Rattle.grammar.specs.Loads.{Outcome, need, step, finish, after_step, after_next, run, load_of}
+use Rattle.grammar.specs.Loads.{Outcome, step, finish, after_step, after_next, run, load_of}
 use Rattle.grammar.specs.Stopping.{Reached, nothing, command, Refused, by_6, by_7, by_4, by_3, by_8, by_5, Because, incomplete, unknown, refused, trailing, Stopped}
 use Rattle.grammar.specs.Commands.{Bytes}
 use Rattle.grammar.proofs.Reading.{Read, reads, shorter}

@@ -1,6 +1,5 @@
 -- What a slice of bytes holds is bytes.
 use Rattle.std.proofs.Common.{ℕ, zero, suc, ◌<◌, List, [], ◌∷◌, length, get_or, arith, w8, Fits}
-use mir.Val.{bits}
 use Rattle.grammar.specs.Commands.{Bytes}
 
 fits_byte : (n : ℕ) → Fits w8 n → n < 256

@@ -1,5 +1,5 @@
 -- The bytes of lists that are put together.
-use Rattle.std.proofs.Common.{◌≡◌, ℕ, List, [], ◌∷◌, ◌++◌, sym, refl, ap, ◌∙◌, subst, ap₂, append_assoc, append-nil}
+use Rattle.std.proofs.Common.{◌≡◌, ℕ, List, [], ◌∷◌, ◌++◌, sym, refl, ap, ◌∙◌, append_assoc}
 use Rattle.grammar.specs.Grammars.{Symbol, ProductionModel}
 use Rattle.grammar.specs.Encoding.{categories_bytes, symbol_bytes, symbols_bytes, constituents_bytes, production_bytes, productions_bytes}
 

@@ -6,7 +6,6 @@
 --   production g p    production number p of g
 use Rattle.std.specs.Prelude.{ℕ, List, [], slice_index, slice_index_or}
 pub use Rattle.grammar.specs.declared.symbol.Symbol.{Symbol}
-use Rattle.grammar.specs.declared.symbol.Symbol.TheVariants as symbol
 
 pub record ProductionModel : Type 0 where
   pub category : ℕ

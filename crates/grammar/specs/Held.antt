@@ -1,7 +1,7 @@
 -- What the parts of a held grammar stand for. Assumes nothing.
 --   production_model p   a held production as lists
 --   held_model           a grammar as lists, from the fields of a held one
-use Rattle.std.specs.Prelude.{ℕ, List, map}
+use Rattle.std.specs.Prelude.{ℕ, map}
 use Rattle.grammar.specs.declared.row.Row.{Row}
 use Rattle.grammar.specs.declared.production.Production.{Production}
 use Rattle.grammar.specs.Grammars.{ProductionModel, GrammarModel}

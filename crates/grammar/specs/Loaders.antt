@@ -5,9 +5,9 @@
 use Rattle.std.specs.Prelude.{◌≡◌, ℕ, true, map, Ok, Err, Result}
 use Rattle.grammar.specs.declared.loader.OpenProduction.{OpenProduction}
 use Rattle.grammar.specs.declared.loader.Loader.{Loader}
-use Rattle.grammar.specs.Stops.{PackStop, Stop, told}
+use Rattle.grammar.specs.Stops.{PackStop, told}
 use Rattle.grammar.specs.Commands.{Command, closes}
-use Rattle.grammar.specs.Drafts.{Stage, Between, Opened, Draft}
+use Rattle.grammar.specs.Drafts.{Between, Opened, Draft}
 use Rattle.grammar.specs.Entries.{entries}
 use Rattle.grammar.specs.Held.{production_model}
 use Rattle.grammar.specs.Loads.{step}

@@ -1,7 +1,7 @@
 -- Where and why a load stops, as a relation. Assumes nothing.
 --   Reached w s d   the bytes w are commands that meet every check, and lead to the stage s and the draft d
 --   Stopped p o     the pack p is such bytes, and then bytes that are stopped by o
-use Rattle.std.specs.Prelude.{◌≡◌, ℕ, ◌+◌, true, false, List, [], ◌∷◌, ◌++◌, length, Ok, Err}
+use Rattle.std.specs.Prelude.{◌≡◌, ℕ, ◌+◌, true, false, List, [], ◌∷◌, ◌++◌, length, Err}
 use Rattle.grammar.specs.Commands.{Command, End, Incomplete, Unknown, next_of, is_end, bytes}
 use Rattle.grammar.specs.Drafts.{Stage, Fresh, Draft, blank, apply}
 use Rattle.grammar.specs.Checks.{filled, all_named, in_limits, allowed, start_fits, operands_fit, Passes}

@@ -1,6 +1,6 @@
 -- Well-formedness as a test, which a held grammar keeps true. It is proved to say what WellFormed says.
 --   formed g   the test of a whole grammar
-use Rattle.std.specs.Prelude.{ℕ, Bool, true, ◌&&◌, ltb, List, [], ◌∷◌, length, ◌==◌, nat_le, nat_lt}
+use Rattle.std.specs.Prelude.{ℕ, Bool, ltb, List, [], ◌∷◌, length, ◌==◌, nat_le, nat_lt}
 use Rattle.grammar.specs.declared.symbol.Symbol.TheVariants as symbol
 use Rattle.grammar.specs.Limits.{most_categories, most_productions, most_symbols, most_dimension, most_arity, weights, tokens}
 use Rattle.grammar.specs.Grammars.{Symbol, ProductionModel, GrammarModel, dimension}

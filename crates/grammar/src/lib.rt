@@ -1,4 +1,6 @@
 // Grammar packs: the commands, the held grammar, and the load that makes one of the other.
+#![tactic(auto)]
+
 pub mod command;
 mod filling;
 pub mod held;

@@ -2,7 +2,7 @@ use Rattle.std.proofs.Common.{◌≡◌, Bool, true, false, sym, ap, ◌∙◌, 
 use Rattle.grammar.specs.declared.row.Row.{Row}
 use Rattle.grammar.specs.Grammars.{Symbol}
 use Rattle.grammar.specs.Entries.{entries}
-use Rattle.grammar.specs.Checks.{all, has_some}
+use Rattle.grammar.specs.Checks.{has_some}
 use Rattle.grammar.proofs.Tests.{is_some, none_is}
 use Rattle.grammar.proofs.Scanning.{all_here, all_on, all_end, all_map}
 use Rattle.grammar.proofs.filling.each_has_some.Goals as goal

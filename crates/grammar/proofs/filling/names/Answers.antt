@@ -9,18 +9,18 @@ use Rattle.grammar.proofs.filling.names.Goals as goal
 pub loop-constituent-init : goal.loop-constituent-init
 loop-constituent-init c = any_map (any (is_part c.args.k c.args.l)) entries c.args.constituents.now
 
-pub returns-then-some-part : goal.returns-then-some-part
-returns-then-some-part c =
+pub returns-then-some_part : goal.returns-then-some_part
+returns-then-some_part c =
     let f : _ → Bool = λ (x : Row Symbol 8). any (is_part c.args.k c.args.l) (entries x) in
     any_here f c.args.constituents.now c.loop-constituent.constituent-index _ c.constituent-item.result c.loop-constituent-test.true
-    (ap f (sym c.constituent-item.is) ∙ ap (any (is_part c.args.k c.args.l)) (sym c.items.ensures) ∙ sym c.if-some-part.ensures)
+    (ap f (sym c.constituent-item.is) ∙ ap (any (is_part c.args.k c.args.l)) (sym c.items.ensures) ∙ sym c.if-some_part.ensures)
     c.loop-constituent.invariant
 
 pub loop-constituent-preserved : goal.loop-constituent-preserved
 loop-constituent-preserved c =
     let f : _ → Bool = λ (x : Row Symbol 8). any (is_part c.args.k c.args.l) (entries x) in
     any_on f c.args.constituents.now c.loop-constituent.constituent-index _ c.constituent-item.result c.loop-constituent-test.true
-    (ap f (sym c.constituent-item.is) ∙ ap (any (is_part c.args.k c.args.l)) (sym c.items.ensures) ∙ sym c.if-some-part.ensures)
+    (ap f (sym c.constituent-item.is) ∙ ap (any (is_part c.args.k c.args.l)) (sym c.items.ensures) ∙ sym c.if-some_part.ensures)
     c.loop-constituent.invariant
 
 pub returns : goal.returns

@@ -25,18 +25,18 @@ pub returns-in-Err : goal.returns-in-Err
 returns-in-Err c = record {
   value = c.loop-command.invariant.1
       ∙ load_unread _ c.loop-command.loader.stage (draft_of c.loop-command.loader) c.loop-command.rest.now c.in-Err.reason c.in-Err.ensures
-      ∙ ap {B = Outcome} (λ o. Err o) (sym c.stop-of.ensures);
-  bytes = typed_bytes c.args.pack.now c.type-inv.pack;
+      ∙ ap {B = Outcome} (λ o. Err o) (sym c.stop_of.ensures);
+  bytes = typed_bytes c.args.pack.now c.type_inv.pack;
 }
 
-pub returns-in-err-take : goal.returns-in-err-take
-returns-in-err-take c =
-    let p = err_from_is_err_and c.from-residual.result c.from-residual.ensures.1 in
+pub returns-in_err-take-in-Ok : goal.returns-in_err-take-in-Ok
+returns-in_err-take-in-Ok c =
+    let p = err_from_is_err_and c.from_residual.result c.from_residual.ensures.1 in
     let stopped =
     c.loop-command.invariant.1
     ∙ load_stop _ c.loop-command.loader.stage (draft_of c.loop-command.loader) c.loop-command.rest.now c.in-Ok.more.now c.in-Ok.command _
-    c.in-Ok.ensures c.in-err-take.ensures in
-    record { value = rw (p.1, p.2) stopped; bytes = typed_bytes c.args.pack.now c.type-inv.pack }
+    c.in-Ok.ensures c.in_err-take-in-Ok.ensures in
+    record { value = rw (p.1, p.2) stopped; bytes = typed_bytes c.args.pack.now c.type_inv.pack }
 
 -- where END was taken
 ended : (pack rest more : List ℕ) (s : Stage) (d : Draft) (c : Command) (x : Stage × Draft) → length rest ≤ length pack
@@ -54,26 +54,26 @@ finish-more : (at : ℕ) (d : Draft) (more : List ℕ) → false ≡ eqb (length
 finish-more at d [] e = absurd (false≢true e)
 finish-more at d (b ∷ bs) e = refl
 
-pub returns-then-is-empty : goal.returns-then-is-empty
-returns-then-is-empty c =
+pub returns-then-is_empty : goal.returns-then-is_empty
+returns-then-is_empty c =
     let l = c.loop-command.loader in
     let m = c.take.new.self in
     record {
       value = ended c.args.pack.now c.loop-command.rest.now c.in-Ok.more.now l.stage (draft_of l) c.in-Ok.command (m.stage, draft_of m)
-          c.loop-command.invariant.0 c.loop-command.invariant.1 c.in-Ok.ensures c.in-ok-take.ensures (sym c.if-is-end.ensures)
-          ∙ finish-empty _ (draft_of m) c.in-Ok.more.now c.if-is-empty.ensures;
-      bytes = typed_bytes c.args.pack.now c.type-inv.pack;
+          c.loop-command.invariant.0 c.loop-command.invariant.1 c.in-Ok.ensures c.in_ok-take-in-Ok.ensures (sym c.if-is_end.ensures)
+          ∙ finish-empty _ (draft_of m) c.in-Ok.more.now c.if-is_empty.ensures;
+      bytes = typed_bytes c.args.pack.now c.type_inv.pack;
     }
 
-pub returns-then-is-end : goal.returns-then-is-end
-returns-then-is-end c =
+pub returns-then-is_end : goal.returns-then-is_end
+returns-then-is_end c =
     let l = c.loop-command.loader in
     let m = c.take.new.self in
     record {
       value = ended c.args.pack.now c.loop-command.rest.now c.in-Ok.more.now l.stage (draft_of l) c.in-Ok.command (m.stage, draft_of m)
-          c.loop-command.invariant.0 c.loop-command.invariant.1 c.in-Ok.ensures c.in-ok-take.ensures (sym c.if-is-end.ensures)
-          ∙ finish-more _ (draft_of m) c.in-Ok.more.now c.if-is-empty.ensures;
-      bytes = typed_bytes c.args.pack.now c.type-inv.pack;
+          c.loop-command.invariant.0 c.loop-command.invariant.1 c.in-Ok.ensures c.in_ok-take-in-Ok.ensures (sym c.if-is_end.ensures)
+          ∙ finish-more _ (draft_of m) c.in-Ok.more.now c.if-is_empty.ensures;
+      bytes = typed_bytes c.args.pack.now c.type_inv.pack;
     }
 
 pub loop-command-smaller : goal.loop-command-smaller
@@ -91,6 +91,6 @@ loop-command-preserved c =
       omega (arith, took, c.loop-command.invariant.0),
       c.loop-command.invariant.1
           ∙ load_more (length pack - length rest) l.stage (draft_of l) rest more c.in-Ok.command (m.stage, draft_of m) c.in-Ok.ensures
-          c.in-ok-take.ensures (sym c.if-is-end.ensures)
+          c.in_ok-take-in-Ok.ensures (sym c.if-is_end.ensures)
           ∙ ap (λ n. run (length more) n m.stage (draft_of m) more) at,
     )

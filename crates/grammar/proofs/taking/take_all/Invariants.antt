@@ -1,5 +1,4 @@
 use Rattle.std.proofs.Common.{◌≡◌, ◌-◌, ◌≤◌, length}
-use Rattle.grammar.specs.Commands.{Bytes}
 use Rattle.grammar.specs.Loaders.{draft_of}
 use Rattle.grammar.specs.Loads.{run, load_of}
 use Rattle.grammar.proofs.taking.take_all.Given as goal

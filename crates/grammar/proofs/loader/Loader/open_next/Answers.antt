@@ -1,4 +1,4 @@
-use Rattle.std.proofs.Common.{◌≡◌, map, sym, refl, ap, ◌∙◌, arith}
+use Rattle.std.proofs.Common.{map, refl, ap, ◌∙◌, arith}
 use Rattle.std.proofs.lemmas.Bool.{le-ltb}
 use Rattle.std.proofs.lemmas.List.{length-map, length_push}
 use Rattle.grammar.specs.Commands.{Constituent}
@@ -11,8 +11,8 @@ use Rattle.grammar.specs.Stopping.{by_4}
 use Rattle.grammar.proofs.Meeting.{refused_step}
 use Rattle.grammar.proofs.loader.Loader.open_next.Goals as goal
 
-pub returns-then-len-open-dimension : goal.returns-then-len-open-dimension
-returns-then-len-open-dimension c =
+pub returns-then-len-open_dimension : goal.returns-then-len-open_dimension
+returns-then-len-open_dimension c =
     let l = c.args.self.now in
     let o = l.opened in
     ap (λ s. step c.args.at s (draft_of l) Constituent) c.requires
@@ -20,8 +20,8 @@ returns-then-len-open-dimension c =
     (by_4 refl refl (le-ltb _ _ (omega (
       arith,
       c.len.ensures.value,
-      c.open-dimension.ensures.value,
-      c.if-len-open-dimension.true,
+      c.open_dimension.ensures.value,
+      c.if-len-open_dimension.true,
       length-map (entries o.closed) (entries {n = 8}),
       length_push (map (entries {n = 8}) (entries o.closed)) (entries o.current),
     ))))

@@ -1,4 +1,4 @@
-use Rattle.std.proofs.Common.{◌≡◌, true, sym, refl, ap, ◌∙◌, arith}
+use Rattle.std.proofs.Common.{◌≡◌, sym, refl, ap, ◌∙◌, arith}
 use Rattle.grammar.specs.Commands.{Start}
 use Rattle.grammar.specs.Drafts.{Categories}
 use Rattle.grammar.specs.Entries.{entries}
@@ -15,7 +15,7 @@ returns c =
     let l = c.args.self.now in
     let ds = entries l.dimensions in
     let x = c.args.category in
-    let one : dimension ds x ≡ 1 = ap (λ xs. dimension xs x) (sym c.items.ensures) ∙ sym c.dimension-of.ensures ∙ c.if-dimension-of-ne1.false in
+    let one : dimension ds x ≡ 1 = ap (λ xs. dimension xs x) (sym c.items.ensures) ∙ sym c.dimension_of.ensures ∙ c.if-dimension_of-ne1.false in
     ap (λ s. step c.args.at s (draft_of l) (Start x)) c.requires
     ∙ step_passed c.args.at Categories (draft_of l) (Start x)
     (record { p6 = refl; p7 = refl; p4 = refl; p3 = is_some ds (omega (arith, c.len.ensures.value, c.if-len-eq0.false)); p8 = single_known ds x one; p5 = refl })
