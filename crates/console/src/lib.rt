@@ -1,4 +1,6 @@
 // The console: a script, line by line, and what each line prints.
+#![tactic(auto)]
+
 mod decimal;
 mod hex;
 mod script;
