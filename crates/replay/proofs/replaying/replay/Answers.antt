@@ -29,41 +29,41 @@ returns-then-commands-ne0 c =
     let list = c.args.commands.now in
     let before = c.args.output.now in
     let e = uneven (model g) list (length before) c.if-commands-ne0.true in
-    record { value = (e, refl); law = law-of g list before before (typed_bytes list c.type-inv.commands) (Err _) (e, refl) }
+    record { value = (e, refl); law = law-of g list before before (typed_bytes list c.type_inv.commands) (Err _) (e, refl) }
 
-pub returns-in-err-stack : goal.returns-in-err-stack
-returns-in-err-stack c =
+pub returns-in_err-stack : goal.returns-in_err-stack
+returns-in_err-stack c =
     let g = c.args.grammar.now in
     let list = c.args.commands.now in
     let before = c.args.output.now in
-    let p = err_from_is_err_and c.from-residual.result c.from-residual.ensures.1 in
-    let v = handed (replay_of (model g) list (length before)) before c.from-residual.result p.0 c.in-err-stack.field-0.0 p.1 p.2
-    (run_stops (model g) list (length before) c.if-commands-ne0.false _ c.in-err-stack.ensures) in
-    record { value = v; law = law-of g list before before (typed_bytes list c.type-inv.commands) c.from-residual.result v }
+    let p = err_from_is_err_and c.from_residual.result c.from_residual.ensures.1 in
+    let v = handed (replay_of (model g) list (length before)) before c.from_residual.result p.0 c.in_err-stack.field-0.0 p.1 p.2
+    (run_stops (model g) list (length before) c.if-commands-ne0.false _ c.in_err-stack.ensures) in
+    record { value = v; law = law-of g list before before (typed_bytes list c.type_inv.commands) c.from_residual.result v }
 
-pub returns-in-err-length : goal.returns-in-err-length
-returns-in-err-length c =
+pub returns-in_err-length : goal.returns-in_err-length
+returns-in_err-length c =
     let g = c.args.grammar.now in
     let list = c.args.commands.now in
     let before = c.args.output.now in
-    let p = err_from_is_err_and c.from-residual-in-err-length.result c.from-residual-in-err-length.ensures.1 in
-    let v = handed (replay_of (model g) list (length before)) before c.from-residual-in-err-length.result p.0 c.in-err-length.field-0.0 p.1 p.2
-    (finishes (model g) list (length before) c.if-commands-ne0.false (stack_of c.in-ok-stack.stack) c.in-ok-stack.ensures
-    ∙ c.in-err-length.ensures (model g) (length before) (sym c.start.ensures)) in
-    record { value = v; law = law-of g list before before (typed_bytes list c.type-inv.commands) c.from-residual-in-err-length.result v }
+    let p = err_from_is_err_and c.from_residual-in_err-length.result c.from_residual-in_err-length.ensures.1 in
+    let v = handed (replay_of (model g) list (length before)) before c.from_residual-in_err-length.result p.0 c.in_err-length.field-0.0 p.1 p.2
+    (finishes (model g) list (length before) c.if-commands-ne0.false (stack_of c.in_ok-stack.stack) c.in_ok-stack.ensures
+    ∙ c.in_err-length.ensures (model g) (length before) (sym c.start.ensures)) in
+    record { value = v; law = law-of g list before before (typed_bytes list c.type_inv.commands) c.from_residual-in_err-length.result v }
 
 pub returns-then-output-length : goal.returns-then-output-length
 returns-then-output-length c =
     let g = c.args.grammar.now in
     let list = c.args.commands.now in
     let before = c.args.output.now in
-    let top = c.in-ok-length.ensures in
-    let e = no_room (model g) list (length before) c.if-commands-ne0.false (stack_of c.in-ok-stack.stack) c.in-ok-stack.ensures
-    top.only top.whole (top.of_start ∙ c.start.ensures) c.in-ok-length.length top.long c.if-output-length.true in
-    record { value = (e, refl); law = law-of g list before before (typed_bytes list c.type-inv.commands) (Err _) (e, refl) }
+    let top = c.in_ok-length.ensures in
+    let e = no_room (model g) list (length before) c.if-commands-ne0.false (stack_of c.in_ok-stack.stack) c.in_ok-stack.ensures
+    top.only top.whole (top.of_start ∙ c.start.ensures) c.in_ok-length.length top.long c.if-output-length.true in
+    record { value = (e, refl); law = law-of g list before before (typed_bytes list c.type_inv.commands) (Err _) (e, refl) }
 
-pub slice-bounds-copy-from-slice-end-2 : goal.slice-bounds-copy-from-slice-end-2
-slice-bounds-copy-from-slice-end-2 c = omega (arith, c.in-ok-length.ensures.inside, ap length c.items-tokens.ensures)
+pub slice_bounds-copy_from_slice-end-2 : goal.slice_bounds-copy_from_slice-end-2
+slice_bounds-copy_from_slice-end-2 c = omega (arith, c.in_ok-length.ensures.inside, ap length c.items-tokens.ensures)
 
 -- what was copied, and what stands behind it
 copied : (phrase tokens held before self : List ℕ) (n : ℕ) → tokens ≡ held → take n held ≡ phrase → n ≡ length phrase → self ≡ take (n - 0) tokens → Written phrase n before (self ++ drop (n - 0) before)
@@ -79,10 +79,10 @@ returns c =
     let g = c.args.grammar.now in
     let list = c.args.commands.now in
     let before = c.args.output.now in
-    let top = c.in-ok-length.ensures in
-    let n = c.in-ok-length.length in
-    let e = answers (model g) list (length before) c.if-commands-ne0.false (stack_of c.in-ok-stack.stack) c.in-ok-stack.ensures
+    let top = c.in_ok-length.ensures in
+    let n = c.in_ok-length.length in
+    let e = answers (model g) list (length before) c.if-commands-ne0.false (stack_of c.in_ok-stack.stack) c.in_ok-stack.ensures
     top.only top.whole (top.of_start ∙ c.start.ensures) n top.long c.if-output-length.false in
-    let w = copied (phrase_of top.only) c.items-tokens.result.now (items c.in-ok-stack.stack.tokens) before c.copy-from-slice.new.self n
-    c.items-tokens.ensures top.phrase top.long c.copy-from-slice.ensures.after in
-    record { value = (phrase_of top.only, e, w); law = law-of g list before _ (typed_bytes list c.type-inv.commands) (Ok n) (phrase_of top.only, e, w) }
+    let w = copied (phrase_of top.only) c.items-tokens.result.now (items c.in_ok-stack.stack.tokens) before c.copy_from_slice.new.self n
+    c.items-tokens.ensures top.phrase top.long c.copy_from_slice.ensures.after in
+    record { value = (phrase_of top.only, e, w); law = law-of g list before _ (typed_bytes list c.type_inv.commands) (Ok n) (phrase_of top.only, e, w) }

@@ -57,20 +57,20 @@ module _ (c : goal.After-index-productions-number) where
 pub perform-requires : goal.perform-requires
 perform-requires c =
     let can = can_perform (model c.args.grammar.now) c.args.commands.now c.loop-at.at (stack_of c.loop-at.stack)
-    (formed_is (model c.args.grammar.now) c.args.grammar.now.well_formed) (typed_bytes c.args.commands.now c.type-inv.commands) c.requires
+    (formed_is (model c.args.grammar.now) c.args.grammar.now.well_formed) (typed_bytes c.args.commands.now c.type_inv.commands) c.requires
     c.loop-at.invariant.0 c.loop-at.invariant.1 c.loop-at.invariant.2 (number c) (known c) (production_model c.index-productions-number.result) (held c) in
     record { dimension = can.0; filled = can.1 }
 
 pub loop-at-preserved : goal.loop-at-preserved
 loop-at-preserved c =
-    (omega (arith, c.loop-at.invariant.0), omega (arith, c.loop-at.invariant.1), performed (goal.at.loop-at-preserved c).After-index-productions-number ∙ c.in-ok-perform.ensures)
+    (omega (arith, c.loop-at.invariant.0), omega (arith, c.loop-at.invariant.1), performed (goal.at.loop-at-preserved c).After-index-productions-number ∙ c.in_ok-perform.ensures)
 
-pub returns-in-err-perform : goal.returns-in-err-perform
-returns-in-err-perform c =
-    let p = err_from_is_err_and c.from-residual.result c.from-residual.ensures.1 in
+pub returns-in_err-perform : goal.returns-in_err-perform
+returns-in_err-perform c =
+    let p = err_from_is_err_and c.from_residual.result c.from_residual.ensures.1 in
     rw (p.1, p.2)
     (stops_at (model c.args.grammar.now) c.args.commands.now (c.loop-at.at - 3) _ (omega (arith, c.loop-at.invariant.0)) (omega (arith, c.loop-at.invariant.1))
-    (performed (goal.at.returns-in-err-perform c).After-index-productions-number ∙ c.in-err-perform.ensures))
+    (performed (goal.at.returns-in_err-perform c).After-index-productions-number ∙ c.in_err-perform.ensures))
 
 pub returns : goal.returns
 returns c = zero-at c.loop-at.at (omega arith) c.loop-at.invariant.2

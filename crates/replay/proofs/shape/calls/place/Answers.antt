@@ -11,8 +11,8 @@ total-before-requires c =
     let z : c.args.k - 0 ≡ c.args.k = omega arith in
     omega (arith, ap (λ x. total (take x c.args.shapes.now)) z, total_take c.args.shapes.now c.args.k c.if-k-shapes.false, c.requires)
 
-pub overflow-add-result : goal.overflow-add-result
-overflow-add-result c =
+pub overflow_add-result : goal.overflow_add-result
+overflow_add-result c =
     let z : c.args.k - 0 ≡ c.args.k = omega arith in
     omega (
       arith,

@@ -28,8 +28,8 @@ total-requires c =
       performing.pile_most s.tokens,
     )
 
-pub take-off-requires : goal.take-off-requires
-take-off-requires c =
+pub take_off-requires : goal.take_off-requires
+take_off-requires c =
     let s = c.args.self.now in (
       lit< tt,
       omega (
@@ -40,8 +40,8 @@ take-off-requires c =
       ),
     )
 
-pub push-strings-requires : goal.push-strings-requires
-push-strings-requires c =
+pub push_strings-requires : goal.push_strings-requires
+push_strings-requires c =
     let s = c.args.self.now in
     let many = sym (length-map c.constituents.result.now entries) ∙ ap length c.constituents.ensures in
     record {
@@ -66,9 +66,9 @@ returns-in-Some c =
           c.arguments-arguments.result.now c.items-shapes.result.now c.arguments-arguments.ensures c.items-shapes.ensures c.if-not-fits.ensures;
       laid = performing.made_laid r c.args.at (items s.shapes) (items s.tokens) s.laid
           c.arguments-arguments.result.now c.items-shapes.result.now c.arguments-arguments.ensures c.items-shapes.ensures
-          c.items.result.now (items c.take-off.new.self) (map entries c.constituents.result.now) c.total.result
-          c.items.ensures c.constituents.ensures c.total.ensures c.take-off.ensures
-          (items c.push-strings.new.tokens) c.in-Some.lengths c.in-Some.ensures;
+          c.items.result.now (items c.take_off.new.self) (map entries c.constituents.result.now) c.total.result
+          c.items.ensures c.constituents.ensures c.total.ensures c.take_off.ensures
+          (items c.push_strings.new.tokens) c.in-Some.lengths c.in-Some.ensures;
     }
 
 pub returns-in-None : goal.returns-in-None
@@ -76,6 +76,6 @@ returns-in-None c =
     let s = c.args.self.now in
     performing.too_long (production_model c.args.production.now) c.args.at (items s.shapes) (items s.tokens) s.laid
     c.arguments-arguments.result.now c.items-shapes.result.now c.arguments-arguments.ensures c.items-shapes.ensures
-    c.items.result.now (items c.take-off.new.self) (map entries c.constituents.result.now) c.total.result
-    c.items.ensures c.constituents.ensures c.total.ensures c.take-off.ensures
-    (items c.push-strings.new.tokens) c.if-shapes-arguments.false c.if-not-fits.ensures c.in-None.ensures
+    c.items.result.now (items c.take_off.new.self) (map entries c.constituents.result.now) c.total.result
+    c.items.ensures c.constituents.ensures c.total.ensures c.take_off.ensures
+    (items c.push_strings.new.tokens) c.if-shapes-arguments.false c.if-not-fits.ensures c.in-None.ensures

@@ -9,15 +9,15 @@ use Rattle.replay.proofs.stack.putting.push_string.Goals as goal
 pub loop-i-init : goal.loop-i-init
 loop-i-init c = spell_none (strings_on (laid_out c.args.shapes.now c.args.lent.now)) c.args.symbols.now (items c.args.tokens.now)
 
-pub returns-then-not-push-piece : goal.returns-then-not-push-piece
-returns-then-not-push-piece c =
+pub returns-then-not-push_piece : goal.returns-then-not-push_piece
+returns-then-not-push_piece c =
     spell_over (strings_on (laid_out c.args.shapes.now c.args.lent.now)) c.args.symbols.now (items c.args.tokens.now) (items c.loop-i.tokens) c.loop-i.i
-    c.loop-i-test.true c.loop-i.auto.i c.loop-i.invariant c.if-not-push-piece.ensures.test
+    c.loop-i-test.true c.loop-i.auto.i c.loop-i.invariant c.if-not-push_piece.ensures.test
 
 pub loop-i-preserved : goal.loop-i-preserved
 loop-i-preserved c =
     spell_on (strings_on (laid_out c.args.shapes.now c.args.lent.now)) c.args.symbols.now (items c.args.tokens.now) (items c.loop-i.tokens) c.loop-i.i
-    c.loop-i-test.true c.loop-i.auto.i c.loop-i.invariant (items c.push-piece.new.tokens) (c.if-not-push-piece.ensures.after refl)
+    c.loop-i-test.true c.loop-i.auto.i c.loop-i.invariant (items c.push_piece.new.tokens) (c.if-not-push_piece.ensures.after refl)
 
 abbrev spelled : goal.After-room → List ℕ
 spelled c = spell (strings_on (laid_out c.args.shapes.now c.args.lent.now)) c.args.symbols.now
@@ -30,8 +30,8 @@ all c =
 longer : (a b d : List ℕ) → a ≡ b ++ d → length a ≡ length b + length d
 longer a b d e = ap length e ∙ length-append b d
 
-pub overflow-sub-result : goal.overflow-sub-result
-overflow-sub-result c = omega (arith, c.room-room.ensures, c.room.ensures, longer (items c.loop-i.tokens) (spelled c) (items c.args.tokens.now) (all c))
+pub overflow_sub-result : goal.overflow_sub-result
+overflow_sub-result c = omega (arith, c.room-room.ensures, c.room.ensures, longer (items c.loop-i.tokens) (spelled c) (items c.args.tokens.now) (all c))
 
 pub returns : goal.returns
 returns c = (omega (arith, c.room-room.ensures, c.room.ensures, longer (items c.loop-i.tokens) (spelled c) (items c.args.tokens.now) (all c)), all c)
