@@ -44,7 +44,7 @@ fn row_weight<W: Capped>(chains: &[W], c: usize, start: usize) -> W
 
 fn raise_at<W: Weight>(row: &mut [W], c: usize, w: W)
     requires { c < length row.old }
-    ensures { row.new ≡ slice_set row.old c (larger algebra exact (slice_index_or row.old c w) w) }
+    ensures { row.new ≡ slice_set row.old c (larger W.Weight.algebra W.Weight.exact (slice_index_or row.old c w) w) }
 {
     row[c] = larger(row[c], w);
 }

@@ -1,4 +1,6 @@
 // Estimates: the lightest weight of each category, and what a category's way to the start weighs at least.
+#![tactic(auto)]
+
 pub mod capped;
 pub mod category;
 mod chains;

@@ -5,7 +5,7 @@ use weight::weight::Weight;
 
 // Makes a row blank.
 pub fn blank_row<W: Weight>(row: &mut [W])
-    ensures { row.new ≡ replicate (length row.old) nothing }
+    ensures { row.new ≡ replicate (length row.old) W.Weight.nothing }
 {
     for i in 0..row.len() {
         row[i] = W::none();

@@ -9,6 +9,7 @@ ghost use Rattle.estimate.specs.Rules.{Inside};
 use grammar::Grammar;
 use weight::weight::Weight;
 
+#[derive(Clone, Copy)]
 pub enum Premises {
     Nothing,
     One(usize),
@@ -16,15 +17,12 @@ pub enum Premises {
     Three(usize, usize, usize),
 }
 
-impl Copy for Premises {}
-
+#[derive(Clone, Copy)]
 pub struct Rule<W> {
     pub result: usize,
     pub premises: Premises,
     pub price: W,
 }
-
-impl<W: Copy> Copy for Rule<W> {}
 
 // Rules by number, read from a grammar and a row of lightest weights. A number may have no rule, as where its price would be above the ceiling.
 pub trait Rules<W: Weight> {

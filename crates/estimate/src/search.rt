@@ -20,7 +20,7 @@ use weight::weight::Weight;
 // The weight at a settled item.
 pub fn settled<W: Weight>(row: &[W], x: usize) -> Option<W>
     requires { x < length row.now }
-    ensures { MatchOption result (Open algebra exact nothing row.now x) (λ w. (w ≡ at algebra exact nothing row.now x) × (Open algebra exact nothing row.now x → ⊥)) }
+    ensures { MatchOption result (Open W.Weight.algebra W.Weight.exact W.Weight.nothing row.now x) (λ w. (w ≡ at W.Weight.algebra W.Weight.exact W.Weight.nothing row.now x) × (Open W.Weight.algebra W.Weight.exact W.Weight.nothing row.now x → ⊥)) }
 {
     let w = row[x];
     match w.compare(W::none()) {
@@ -33,7 +33,7 @@ pub fn settled<W: Weight>(row: &[W], x: usize) -> Option<W>
 // What has been combined so far, with the weight at x.
 fn with<W: Weight>(so_far: Option<W>, row: &[W], x: usize) -> Option<W>
     requires { x < length row.now }
-    ensures { (price : W.Weight.algebra.Exact) (ps : List ℕ) → Weighed algebra exact nothing row.now price ps so_far → Weighed algebra exact nothing row.now price (ps ++ x ∷ []) result }
+    ensures { (price : W.Weight.algebra.Exact) (ps : List ℕ) → Weighed W.Weight.algebra W.Weight.exact W.Weight.nothing row.now price ps so_far → Weighed W.Weight.algebra W.Weight.exact W.Weight.nothing row.now price (ps ++ x ∷ []) result }
 {
     let Some(sum) = so_far else {
         return None;
@@ -47,7 +47,7 @@ fn with<W: Weight>(so_far: Option<W>, row: &[W], x: usize) -> Option<W>
 // What the rule gives, where its premises are settled.
 pub fn weigh<W: Weight>(rule: &Rule<W>, row: &[W]) -> Option<W>
     requires { Each (λ p. p < length row.now) (premises_of rule.now.premises) }
-    ensures { Weighed algebra exact nothing row.now (exact rule.now.price) (premises_of rule.now.premises) result }
+    ensures { Weighed W.Weight.algebra W.Weight.exact W.Weight.nothing row.now (W.Weight.exact rule.now.price) (premises_of rule.now.premises) result }
 {
     let price = Some(rule.price);
     match rule.premises {
@@ -60,10 +60,10 @@ pub fn weigh<W: Weight>(rule: &Rule<W>, row: &[W]) -> Option<W>
 
 // Sees to it that the entry with e's index does not come after e.
 fn offer<E: Slotted + Copy>(agenda: &mut Agenda<E>, e: E)
-    requires { Sound E.Rank.lt index agenda.old × (index e < room agenda.old) }
-    ensures sound { Sound E.Rank.lt index agenda.new }
+    requires { Sound E.Rank.lt E.Slotted.index agenda.old × (E.Slotted.index e < room agenda.old) }
+    ensures sound { Sound E.Rank.lt E.Slotted.index agenda.new }
     ensures room { room agenda.new ≡ room agenda.old }
-    ensures offered { Offered E.Rank.lt index e (entries agenda.old) (entries agenda.new) }
+    ensures offered { Offered E.Rank.lt E.Slotted.index e (entries agenda.old) (entries agenda.new) }
 {
     let k = e.slot_index();
     if agenda.has(k) {
@@ -78,10 +78,10 @@ fn consider<W: Weight>(rule: &Rule<W>, row: &[W], agenda: &mut Agenda<Entry<W>>)
     requires result { rule.now.result < length row.now }
     requires premises { Each (λ p. p < length row.now) (premises_of rule.now.premises) }
     requires room { rule.now.result < room agenda.old }
-    requires sound { Sound (cheaper algebra exact) place agenda.old }
-    ensures sound { Sound (cheaper algebra exact) place agenda.new }
+    requires sound { Sound (cheaper W.Weight.algebra W.Weight.exact) place agenda.old }
+    ensures sound { Sound (cheaper W.Weight.algebra W.Weight.exact) place agenda.new }
     ensures room { room agenda.new ≡ room agenda.old }
-    ensures considered { Considered algebra exact nothing row.now rule.now (entries agenda.old) (entries agenda.new) }
+    ensures considered { Considered W.Weight.algebra W.Weight.exact W.Weight.nothing row.now rule.now (entries agenda.old) (entries agenda.new) }
 {
     if let Some(_) = settled(row, rule.result) {
         return;

@@ -69,11 +69,11 @@ impl<W: Weight> Rules<W> for Trees {
 
 // The lightest weights in a row and by an agenda that are as long as there are categories.
 fn lightest_whole<W: Weight>(grammar: &Grammar, row: &mut [W], cells: &mut [Cell<Entry<W>>])
-    requires accepted { Accepted algebra (model grammar.now) }
+    requires accepted { Accepted W.Weight.algebra (model grammar.now) }
     requires row { length row.old ≡ categories (model grammar.now) }
     requires cells { length cells.old ≡ categories (model grammar.now) }
-    ensures lightest { LightestRow algebra exact (model grammar.now) row.new }
-    ensures cells { cells.new ≡ replicate (categories (model grammar.now)) (blank_cell (blank_entry nothing)) }
+    ensures lightest { LightestRow W.Weight.algebra W.Weight.exact (model grammar.now) row.new }
+    ensures cells { cells.new ≡ replicate (categories (model grammar.now)) (blank_cell (blank_entry W.Weight.nothing)) }
 {
     blank_row(row);
     search(&Trees, grammar, &[], row, cells);
@@ -81,12 +81,12 @@ fn lightest_whole<W: Weight>(grammar: &Grammar, row: &mut [W], cells: &mut [Cell
 
 // The lightest weight of each category, or none where no tree of it is within the ceiling. Each category is settled once, the lightest first, and then each production is looked at: at most as many looks as categories times productions, each of a fixed number of steps.
 pub fn lightest<W: Weight>(grammar: &Grammar, row: &mut [W], cells: &mut [Cell<Entry<W>>])
-    requires accepted { Accepted algebra (model grammar.now) }
+    requires accepted { Accepted W.Weight.algebra (model grammar.now) }
     requires row { categories (model grammar.now) ≤ length row.old }
     requires cells { categories (model grammar.now) ≤ length cells.old }
-    ensures lightest { LightestRow algebra exact (model grammar.now) row.new }
+    ensures lightest { LightestRow W.Weight.algebra W.Weight.exact (model grammar.now) row.new }
     ensures rest { drop (categories (model grammar.now)) row.new ≡ drop (categories (model grammar.now)) row.old }
-    ensures cells { cells.new ≡ replicate (categories (model grammar.now)) (blank_cell (blank_entry nothing)) ++ drop (categories (model grammar.now)) cells.old }
+    ensures cells { cells.new ≡ replicate (categories (model grammar.now)) (blank_cell (blank_entry W.Weight.nothing)) ++ drop (categories (model grammar.now)) cells.old }
 {
     let n = grammar.dimensions().len();
     lightest_whole(grammar, &mut row[0..n], &mut cells[0..n]);

@@ -33,7 +33,7 @@ impl<W: Weight> Slotted for Entry<W> {
 impl<W: Weight> Entry<W> {
     // What a blank cell of the agenda holds.
     pub fn blank() -> Entry<W>
-        ensures { result ≡ blank_entry nothing }
+        ensures { result ≡ blank_entry W.Weight.nothing }
     {
         Entry {
             cost: W::none(),

@@ -12,12 +12,12 @@ loop-k-init c = ap (λ (s : Sums). s.value) c.none-sum.ensures ∙ sym (mul-zero
 pub loop-k-preserved : goal.loop-k-preserved
 loop-k-preserved c = omega (arith, c.in-Some.ensures, c.loop-k.invariant, more c.args.w.value c.loop-k.k)
 
-pub returns-in-default : goal.returns-in-default
-returns-in-default c =
+pub returns-in_default : goal.returns-in_default
+returns-in_default c =
     let v = c.args.w.value in
     let k = c.loop-k.k in
     let l : k + 1 ≤ c.args.n = omega arith in
-    let z : ⊥ = omega (arith, c.in-default.ensures, c.loop-k.invariant, more v k, mul-le-mul_left v l, c.requires) in
+    let z : ⊥ = omega (arith, c.in_default.ensures, c.loop-k.invariant, more v k, mul-le-mul_left v l, c.requires) in
     absurd z
 
 pub returns : goal.returns

@@ -14,17 +14,17 @@ loop-c-preserved g c =
     let row = c.loop-c.row in
     let first = c.args.row.now in
     let i = c.loop-c.c in
-    let w = c.row-weight-w.result in
+    let w = c.row_weight-w.result in
     let inv = c.loop-c.invariant in
     let inside : i < length row = omega arith in
     let v = larger A exact (get_or row i w) w in
-    let now = c.raise-at.new.row in
-    let at-now : (k : ℕ) (d : g.row.W.Denot) → get_or now k d ≡ get_or (set row i v) k d = λ k d. ap (λ (r : List g.row.W.Denot). get_or r k d) c.raise-at.ensures in (
+    let now = c.raise_at.new.row in
+    let at-now : (k : ℕ) (d : g.row.W.Denot) → get_or now k d ≡ get_or (set row i v) k d = λ k d. ap (λ (r : List g.row.W.Denot). get_or r k d) c.raise_at.ensures in (
       λ own is k d l.
           elim (cases_eq k i) [
             | inl p ↦
                 let T : ℕ → Type 0 = λ j. get_or now j d ≡ larger A exact (get_or first j d) (own j) in
-                let e : w ≡ own i = is i w (omega arith) c.row-weight-w.ensures in
+                let e : w ≡ own i = is i w (omega arith) c.row_weight-w.ensures in
                 let was : get_or row i w ≡ get_or first i d = inv.1 i w (omega arith) ∙ get_or_default first i w d (omega arith) in
                 let here : T i = at-now i d ∙ get_or-set_same row i v d inside ∙ (λ j. larger A exact (was j) (e j)) in
                 subst T (sym p) here

@@ -12,13 +12,13 @@ pub search-requires : goal.search-requires
 search-requires g c =
     let m = model c.args.grammar.now in
     record {
-      ready = (formed_is m c.args.grammar.now.well_formed, c.requires.accepted, c.requires.lightest-long, c.requires.lightest);
+      ready = (formed_is m c.args.grammar.now.well_formed, c.requires.accepted, c.requires.lightest_long, c.requires.lightest);
       row = c.requires.spare;
       cells = c.requires.cells;
     }
 
-pub raise-by-requires : goal.raise-by-requires
-raise-by-requires g c =
+pub raise_by-requires : goal.raise_by-requires
+raise_by-requires g c =
     let n = categories (model c.args.grammar.now) in
     c.requires.row ∙ sym (length-replicate n g.W.Weight.nothing) ∙ ap length (sym c.requires.spare) ∙ sym c.search.auto.row
 
@@ -36,7 +36,7 @@ returns g c =
     row_own w.lawful exact m formed w.held c.requires.accepted w.within nothing w.empty row c.search.ensures.solved x (omega (arith, l, c.requires.row)) r
     (subst (λ s. RowWeight A exact nothing s row x r) c.start.ensures is) w.same g.W.Capped.showing g.met.W.Capped.shown in
     record {
-      raised = λ x d l. c.raise-by.ensures (category_own A g.W.Capped.showing m) own x d (omega (arith, l, c.requires.row));
-      spare = c.blank-row.ensures ∙ ap (λ n. replicate n nothing) (c.search.auto.row ∙ ap length c.requires.spare ∙ length-replicate (categories m) nothing) ∙ sym c.requires.spare;
+      raised = λ x d l. c.raise_by.ensures (category_own A g.W.Capped.showing m) own x d (omega (arith, l, c.requires.row));
+      spare = c.blank_row.ensures ∙ ap (λ n. replicate n nothing) (c.search.auto.row ∙ ap length c.requires.spare ∙ length-replicate (categories m) nothing) ∙ sym c.requires.spare;
       cells = c.search.ensures.cells;
     }

@@ -48,7 +48,7 @@ returns-then-has g c =
       sound = told.sound;
       room = told.room;
       offered = by-improve g.E.Rank.lt g.met.E.Rank.order g.E.Slotted.index c.args.e (entries c.args.agenda.now) (entries c.improve.new.self) c.improve.result
-          (was.0, (was.1.0, was.1.1 ∙ c.slot-index-k.ensures)) told.improves;
+          (was.0, (was.1.0, was.1.1 ∙ c.slot_index-k.ensures)) told.improves;
     }
 
 pub returns-else-has : goal.returns-else-has

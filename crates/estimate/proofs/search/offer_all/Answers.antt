@@ -64,7 +64,7 @@ loop-k-preserved g c =
             inv.1,
             λ h.
                 let so_far = inv.2 h in
-                consider_none laws exact nothing n gives (g.met.R.Rules.one m low) row (entries was) (entries was) k so_far.0 so_far.1 (subst (gives k) w.in-default.is c.rule.ensures) refl,
+                consider_none laws exact nothing n gives (g.met.R.Rules.one m low) row (entries was) (entries was) k so_far.0 so_far.1 (subst (gives k) w.in_default.is c.rule.ensures) refl,
           ) in
           subst P (sym w.agenda-is) next
     ]

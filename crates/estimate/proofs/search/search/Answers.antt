@@ -13,8 +13,8 @@ use Rattle.estimate.proofs.Searching.{begin, entry_inside, settle, turned, opens
 use Rattle.estimate.proofs.search.search.Given as given
 use Rattle.estimate.proofs.search.search.Goals as goal
 
-pub offer-all-requires : goal.offer-all-requires
-offer-all-requires g c =
+pub offer_all-requires : goal.offer_all-requires
+offer_all-requires g c =
     let n = categories (model c.args.grammar.now) in
     record {
       ready = c.requires.ready;
@@ -31,7 +31,7 @@ loop-e-init g c =
     let m = model c.args.grammar.now in
     let low = c.args.lightest.now in
     let n = categories m in
-    let told = c.offer-all.ensures in
+    let told = c.offer_all.ensures in
     let all = told.offered (begin A exact nothing (system A exact (g.R.Rules.count m) (g.R.Rules.gives m low)) n c.args.row.now (entries c.new-agenda.result) c.requires.row c.new-agenda.ensures.empty) in (
       told.sound,
       told.room ∙ ap length c.new-agenda.ensures.cells ∙ c.requires.cells,
@@ -83,7 +83,7 @@ loop-e-preserved g c =
     let taken = popped.popped in
     let l = entry_inside (cheaper A exact) place c.loop-e.agenda inv.0 e taken.member in
     let inside : e.category < length row = omega (arith, l, inv.1, inv.2) in
-    let told = c.offer-all-in-Some.ensures in
+    let told = c.offer_all-in-Some.ensures in
     let settled = settle w.lawful exact nothing w.within w.same w.empty n gives (λ k r h q. (g.met.R.Rules.inside m low k r c.requires.ready h q).priced)
     row (entries c.loop-e.agenda) inv.3 inv.4 e (entries c.pop.new.self) taken inside in
     let S : List g.row.W.Denot → Type 0 = λ r. Searching A exact nothing (system A exact n gives) r (entries c.pop.new.self) in
@@ -103,7 +103,7 @@ returns g c =
     let m = model c.args.grammar.now in
     let low = c.args.lightest.now in
     let inv = c.loop-e.invariant in
-    let popped = c.in-default.ensures in
+    let popped = c.in_default.ensures in
     let n = length c.args.cells.now in
     let left = c.pop.new.self.cells.now in
     let few : length left ≤ n = omega (arith, popped.room, inv.1, c.requires.cells) in

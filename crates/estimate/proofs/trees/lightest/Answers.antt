@@ -18,9 +18,9 @@ returns g c =
     let same : k ≡ n = omega (arith, ap length c.dimensions-n.ensures) in
     let row = c.args.row.now in
     let cells = c.args.cells.now in
-    let now = c.lightest-whole.new.row in
-    let told = c.lightest-whole.ensures in
-    let long : length now ≡ k = c.lightest-whole.auto.row ∙ length-take-le k row (omega (arith, same, c.requires.row)) in
+    let now = c.lightest_whole.new.row in
+    let told = c.lightest_whole.ensures in
+    let long : length now ≡ k = c.lightest_whole.auto.row ∙ length-take-le k row (omega (arith, same, c.requires.row)) in
     record {
       lightest = λ x d h. subst (λ v. Light A m x (exact v)) (sym (get_or_append_left now (post_of 0 k row) d x (omega (arith, h, long, same)))) (told.lightest x d h);
       rest = drop-put_mid 0 k row now n (omega (arith, same)) (omega arith) long;

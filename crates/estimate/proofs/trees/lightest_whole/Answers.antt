@@ -12,7 +12,7 @@ search-requires g c =
     let m = model c.args.grammar.now in
     record {
       ready = (formed_is m c.args.grammar.now.well_formed, c.requires.accepted);
-      row = c.blank-row.ensures ∙ ap (λ n. replicate n g.W.Weight.nothing) c.requires.row;
+      row = c.blank_row.ensures ∙ ap (λ n. replicate n g.W.Weight.nothing) c.requires.row;
       cells = c.requires.cells;
     }
 

@@ -19,9 +19,9 @@ returns g c =
     let row = c.args.row.now in
     let spare = c.args.spare.now in
     let cells = c.args.cells.now in
-    let now = c.raise-whole.new.row in
-    let told = c.raise-whole.ensures in
-    let long : length now ≡ k = c.raise-whole.auto.row ∙ length-take-le k row (omega (arith, same, c.requires.row)) in
+    let now = c.raise_whole.new.row in
+    let told = c.raise_whole.ensures in
+    let long : length now ≡ k = c.raise_whole.auto.row ∙ length-take-le k row (omega (arith, same, c.requires.row)) in
     record {
       raised = record {
         each = λ x d h.

@@ -40,15 +40,15 @@ returns-then-result-start g c = λ ws argument fellows away.
     let args : c.arguments-arguments.result.now ≡ (production m p).arguments = c.arguments-arguments.ensures ∙ ap (λ (q : ProductionModel). q.arguments) e in
     absurd (away (ap (λ (xs : List ℕ). get_or xs i 0) (sym args) ∙ c.if-result-start.true ∙ c.start-start.ensures))
 
-pub returns-in-default : goal.returns-in-default
-returns-in-default g c = λ ws argument fellows away.
+pub returns-in_default : goal.returns-in_default
+returns-in_default g c = λ ws argument fellows away.
     let m = model c.args.grammar.now in
     let p = c.args.k / 3 in
     let i = c.args.k % 3 in
     let inside : p < length m.productions = omega (arith, c.requires.within) in
     let e = held_production m c.productions.result.now p c.index-productions-k.result c.productions.ensures inside c.index-productions-k.is in
     let w : c.weight.result ≡ (production m p).weight = c.weight.ensures ∙ ap (λ (q : ProductionModel). q.weight) e in
-    let z : ⊥ = omega (arith, w, c.in-default.ensures, c.requires.ready.1 p inside) in
+    let z : ⊥ = omega (arith, w, c.in_default.ensures, c.requires.ready.1 p inside) in
     absurd z
 
 pub fellows-requires : goal.fellows-requires
@@ -75,8 +75,8 @@ weigh-requires g c =
     let all : Each (λ x. x < n) (but i (production m p).arguments) = but_each (λ x. x < n) (production m p).arguments i (each_map (λ x. x < categories m) (λ x. x < n) (production m p).arguments (λ x l. omega (arith, l, c.requires.ready.2)) f.arguments_known) in
     subst (Each (λ x. x < n)) (sym (c.fellows.ensures ∙ ap (but i) args)) all
 
-pub returns-in-default-weigh : goal.returns-in-default-weigh
-returns-in-default-weigh g c = λ ws argument fellows away.
+pub returns-in_default-weigh : goal.returns-in_default-weigh
+returns-in_default-weigh g c = λ ws argument fellows away.
     let m = model c.args.grammar.now in
     let p = c.args.k / 3 in
     let i = c.args.k % 3 in
@@ -94,7 +94,7 @@ returns-in-default-weigh g c = λ ws argument fellows away.
     let price : exact c.in-Some.weight ≡ A.taken (production m p).weight = c.in-Some.ensures.1 ∙ ap A.taken (c.weight.ensures ∙ ap (λ (q : ProductionModel). q.weight) e) in
     let known = but_each (λ x. x < categories m) (production m p).arguments i f.arguments_known in
     let s = lightest_settled w.lawful exact m c.requires.ready.0 c.requires.ready.1 nothing w.same w.empty low c.requires.ready.3 cs ws known fellows in
-    let heavy = c.in-default-weigh.ensures (subst (AllSettled A exact nothing low) (sym ps) s.0) in
+    let heavy = c.in_default-weigh.ensures (subst (AllSettled A exact nothing low) (sym ps) s.0) in
     let total : A.plus (exact c.in-Some.weight) (worth A exact nothing low (premises_of c.fellows.result)) ≡ A.plus (A.taken (production m p).weight) (together A ws) =
     (λ j. A.plus (price j) ((ap (worth A exact nothing low) ps ∙ s.1) j)) in
     subst (A.lt A.ceiling) total heavy

@@ -11,12 +11,12 @@ bounds-productions-k g c =
     let e : length c.productions.result.now ≡ length (model c.args.grammar.now).productions = sym (length-map c.productions.result.now production_model) ∙ ap length c.productions.ensures in
     omega (arith, e, c.requires.within)
 
-pub returns-in-default : goal.returns-in-default
-returns-in-default g c =
+pub returns-in_default : goal.returns-in_default
+returns-in_default g c =
     let m = model c.args.grammar.now in
     let e = held_production m c.productions.result.now c.args.k c.index-productions-k.result c.productions.ensures c.requires.within c.index-productions-k.is in
     let w : c.weight.result ≡ (production m c.args.k).weight = c.weight.ensures ∙ ap (λ (p : ProductionModel). p.weight) e in
-    omega (arith, w, c.in-default.ensures, c.requires.ready.1 c.args.k c.requires.within)
+    omega (arith, w, c.in_default.ensures, c.requires.ready.1 c.args.k c.requires.within)
 
 pub premises-requires : goal.premises-requires
 premises-requires g c =
