@@ -1,4 +1,6 @@
 // The lightest weights and the estimates of some packs.
+#![tactic(auto)]
+
 mod packs;
 mod rows;
 
@@ -57,7 +59,7 @@ fn odds<E: Estimate<Odds>>(
 // The number that the weight at c shows.
 fn shown<W: Weight>(row: &[W], c: usize) -> u32
     requires { c < length row.now }
-    ensures { (d : W) → result ≡ algebra.shown (exact (slice_index_or row.now c d)) }
+    ensures { (d : W) → result ≡ W.Weight.algebra.shown (W.Weight.exact (slice_index_or row.now c d)) }
 {
     row[c].show()
 }

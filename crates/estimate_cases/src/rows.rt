@@ -10,7 +10,7 @@ use weight::weight::Weight;
 
 // Whether the kind takes every weight number.
 fn accepted<W: Weight>(grammar: &Grammar) -> bool
-    ensures { result ≡ true → Accepted algebra (model grammar.now) }
+    ensures { result ≡ true → Accepted W.Weight.algebra (model grammar.now) }
 {
     let productions = grammar.productions();
     for k in 0..productions.len() {

@@ -17,7 +17,7 @@ loop-k-preserved g c = λ p l.
       | inl z ↦
           let e = held_production m ps k c.index-productions-k.result c.productions-productions.ensures (omega (arith, many, c.loop-k-test.true)) c.index-productions-k.is in
           let w : c.weight.result ≡ (production m k).weight = c.weight.ensures ∙ ap (λ (q : ProductionModel). q.weight) e in
-          subst (λ j. g.W.Weight.algebra.least ≤ (production m j).weight) (sym z) (omega (arith, w, c.least-number.ensures, c.if-weight-least-number.false))
+          subst (λ j. g.W.Weight.algebra.least ≤ (production m j).weight) (sym z) (omega (arith, w, c.least_number.ensures, c.if-weight-least_number.false))
       | inr ne ↦ c.loop-k.invariant p (omega arith)
     ]
 

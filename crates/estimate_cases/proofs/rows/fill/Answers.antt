@@ -23,11 +23,11 @@ raise-requires g c =
     let blank = replicate n (blank_cell (blank_entry nothing)) in
     record {
       accepted = c.if-not-accepted.ensures refl;
-      row = omega (arith, most, c.requires.row, c.blank-row.auto.row);
-      lightest-long = omega (arith, most, c.requires.low, c.lightest.auto.row);
+      row = omega (arith, most, c.requires.row, c.blank_row.auto.row);
+      lightest_long = omega (arith, most, c.requires.low, c.lightest.auto.row);
       lightest = c.lightest.ensures.lightest;
-      spare-long = omega (arith, most, c.requires.spare, c.blank-row-2.auto.row);
-      spare = ap (take n) c.blank-row-2.ensures ∙ take-replicate n (length c.args.spare.now) nothing (omega (arith, most, c.requires.spare));
-      cells-long = omega (arith, most, c.requires.cells, c.lightest.auto.cells);
+      spare_long = omega (arith, most, c.requires.spare, c.blank_row-2.auto.row);
+      spare = ap (take n) c.blank_row-2.ensures ∙ take-replicate n (length c.args.spare.now) nothing (omega (arith, most, c.requires.spare));
+      cells_long = omega (arith, most, c.requires.cells, c.lightest.auto.cells);
       cells = ap (take n) c.lightest.ensures.cells ∙ take_at blank (drop n c.args.cells.now) n (length-replicate n (blank_cell (blank_entry nothing)));
     }
