@@ -1,9 +1,9 @@
 -- What the search over steps leaves is the category estimate. Assumes nothing.
-use Rattle.std.specs.Prelude.{◌≡◌, ℕ, ◌*◌, ◌/◌, ◌%◌, ◌<◌, ◌⊎◌, List, length, Some, Option, refl}
+use Rattle.std.specs.Prelude.{◌≡◌, ℕ, ◌*◌, ◌/◌, ◌%◌, ◌<◌, ◌⊎◌, List, length, Some, refl}
 use Rattle.std.proofs.Common.{sym, ap, subst, ◌∙◌, inl, inr}
 use Rattle.std.proofs.lemmas.Bool.{cases_eq}
 use Rattle.weight.specs.Algebra.{Algebra, Lawful, Le}
-use Rattle.weight.proofs.Orders.{le_refl, le_eq, le_trans, le_lt, lt_le, lt_le_lt}
+use Rattle.weight.proofs.Orders.{le_refl, le_trans, le_lt, lt_le, lt_le_lt}
 use Rattle.grammar.specs.Grammars.{GrammarModel}
 use Rattle.grammar.specs.Formed.{WellFormed}
 use Rattle.deduction.specs.Deduction.{System, Der, Derives, cost}

@@ -1,5 +1,5 @@
 -- The function that settles steps gives the lightest chains, and these are an estimate. Assumes nothing.
-use Rattle.std.specs.Prelude.{◌≡◌, ℕ, ◌+◌, ◌*◌, ◌/◌, ◌%◌, ◌<◌, ◌≤◌, Bool, true, false, cond, ◌⊎◌, List, [], ◌∷◌, length, Some, None, Option, ◌==◌, ◌≢◌, slice_index, slice_index_or, refl}
+use Rattle.std.specs.Prelude.{◌≡◌, ℕ, ◌+◌, ◌*◌, ◌/◌, ◌%◌, ◌<◌, Bool, cond, ◌⊎◌, List, [], length, Some, None, Option, ◌==◌, ◌≢◌, slice_index, slice_index_or, refl}
 use Rattle.std.proofs.Common.{sym, ap, ◌∙◌, arith}
 use Rattle.std.proofs.Math.Path.{subst}
 use Rattle.std.proofs.Math.Logic.{inl, inr}
@@ -7,7 +7,7 @@ use Rattle.std.proofs.lemmas.Bool.{eq-eqb, ne_eqb, lt-ltb, le-ltb, cases_eq, cas
 use Rattle.weight.specs.Algebra.{Algebra, Lawful, Le}
 use Rattle.weight.proofs.Orders.{le_refl, le_trans, lt_le, lt_le_lt, le_antisym, le_first}
 use Rattle.grammar.specs.Grammars.{GrammarModel, production}
-use Rattle.grammar.specs.Formed.{Each, WellFormed}
+use Rattle.grammar.specs.Formed.{WellFormed}
 use Rattle.grammar.proofs.Each.{each_at}
 use Rattle.deduction.specs.Deduction.{but, Der, Derives, cost}
 use Rattle.estimate.specs.declared.rules.Rule.{Rule}
@@ -15,7 +15,7 @@ use Rattle.estimate.specs.Rules.{premises_of, Numbered, system}
 use Rattle.estimate.specs.Weighing.{categories}
 use Rattle.estimate.specs.Estimates.{AllLightest, together, Sound}
 use Rattle.estimate.specs.Chains.{Chain, begin, step, way, ChainStep, LightestChain}
-use Rattle.estimate.specs.Settling.{listed, cost_at, both, all_of, settled, within, capped, light, step_rule, chain_rule, category_weight}
+use Rattle.estimate.specs.Settling.{listed, cost_at, both, all_of, settled, capped, light, step_rule, chain_rule, category_weight}
 use Rattle.estimate.specs.TreeRulesLemmas.{premises_listed, production_formed}
 use Rattle.estimate.specs.Settle.{either, some_none, settled_all}
 use Rattle.estimate.specs.LightWeights.{within_is, all_some, all_found}

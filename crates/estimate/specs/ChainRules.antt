@@ -1,9 +1,9 @@
 -- Steps as rules, and that their derivations are the chains. Assumes nothing.
-use Rattle.std.specs.Prelude.{◌≡◌, ℕ, zero, suc, ◌+◌, ◌*◌, ◌/◌, ◌%◌, ◌<◌, ◌≤◌, Bool, true, false, cond, ◌⊎◌, List, [], ◌∷◌, length, Some, None, Option, ◌≢◌, slice_index, slice_index_or, refl}
+use Rattle.std.specs.Prelude.{◌≡◌, ℕ, ◌+◌, ◌*◌, ◌/◌, ◌%◌, ◌<◌, cond, ◌⊎◌, List, [], ◌∷◌, length, Some, Option, ◌≢◌, slice_index, slice_index_or, refl}
 use Rattle.std.proofs.Common.{sym, ap, subst, subst₂, ◌∙◌, inl, inr, arith}
 use Rattle.std.proofs.lemmas.Bool.{eq-eqb, ne_eqb, cases_eq}
 use Rattle.weight.specs.Algebra.{Algebra, Lawful, Le}
-use Rattle.weight.proofs.Orders.{le_refl, le_eq, le_trans, le_plus, le_plus_both, le_whole, le_first, plus_none}
+use Rattle.weight.proofs.Orders.{le_eq, le_trans, le_plus_both, le_whole, le_first, plus_none}
 use Rattle.grammar.specs.Grammars.{GrammarModel, production}
 use Rattle.deduction.specs.Deduction.{System, Der, Ders, node, none, more, but, Derives, DerivesAll, cost, cost_all}
 use Rattle.estimate.specs.declared.rules.Rule.{Rule}

@@ -1,17 +1,16 @@
 -- Steps read from a grammar and a row of lightest weights. Assumes nothing.
-use Rattle.std.specs.Prelude.{◌≡◌, ℕ, zero, suc, ◌+◌, ◌-◌, ◌*◌, ◌/◌, ◌%◌, ◌<◌, ◌≤◌, cond, ◌⊎◌, List, [], ◌∷◌, length, Some, None, Option, ◌≢◌, slice_index, refl}
+use Rattle.std.specs.Prelude.{◌≡◌, ℕ, zero, suc, ◌+◌, ◌-◌, ◌*◌, ◌/◌, ◌%◌, ◌<◌, ◌⊎◌, List, [], ◌∷◌, length, Some, None, Option, ◌≢◌, slice_index, refl}
 use Rattle.std.proofs.Common.{sym, ap, subst, subst₂, ◌∙◌, inl, inr, arith}
-use Rattle.std.proofs.lemmas.List.{get_or_default}
 use Rattle.std.proofs.lemmas.Bool.{cases_eq}
 use Rattle.weight.specs.Algebra.{Algebra, Lawful, Le}
 use Rattle.weight.proofs.Orders.{lt_le_lt, le_first, cases}
 use Rattle.grammar.specs.Grammars.{GrammarModel, production}
 use Rattle.grammar.specs.Formed.{Each, WellFormed}
 use Rattle.grammar.proofs.Each.{each_at}
-use Rattle.deduction.specs.Deduction.{but, sum}
+use Rattle.deduction.specs.Deduction.{but}
 use Rattle.estimate.specs.declared.rules.Rule.{Rule}
 use Rattle.estimate.specs.Rules.{premises_of, Inside, Numbered}
-use Rattle.estimate.specs.Weighing.{categories, Accepted, Lightest, Light, LightestRow}
+use Rattle.estimate.specs.Weighing.{categories, Accepted, Lightest, LightestRow}
 use Rattle.estimate.specs.Estimates.{AllLightest, together}
 use Rattle.estimate.specs.Searches.{at, Open, worth, AllSettled}
 use Rattle.estimate.specs.Chains.{way, ChainStep, ChainRule}

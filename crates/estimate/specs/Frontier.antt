@@ -1,5 +1,5 @@
 -- The heart of every search here: what is not settled costs at least as much as something that a rule gives from settled items. Assumes nothing.
-use Rattle.std.specs.Prelude.{◌≡◌, ℕ, ◌⊎◌, List, [], ◌∷◌}
+use Rattle.std.specs.Prelude.{ℕ, ◌⊎◌, List, [], ◌∷◌}
 use Rattle.std.proofs.Common.{sym, subst, inl, inr}
 use Rattle.weight.specs.Algebra.{Algebra, Lawful, Le}
 use Rattle.weight.proofs.Orders.{le_refl, le_whole, le_first, le_plus_both, le_plus_right}

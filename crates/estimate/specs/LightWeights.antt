@@ -4,10 +4,10 @@ use Rattle.std.proofs.Common.{sym, ◌∙◌, arith}
 use Rattle.std.proofs.Math.Path.{ap, subst}
 use Rattle.std.proofs.Math.Logic.{inl, inr}
 use Rattle.weight.specs.Algebra.{Algebra, Lawful, Le}
-use Rattle.weight.proofs.Orders.{le_refl, le_eq, lt_le, le_lt, lt_le_lt, le_antisym, le_first}
+use Rattle.weight.proofs.Orders.{le_eq, lt_le, lt_le_lt, le_antisym, le_first}
 use Rattle.grammar.specs.Grammars.{GrammarModel, production}
 use Rattle.grammar.specs.Formed.{WellFormed}
-use Rattle.grammar.specs.Trees.{Tree, Forest, node, TreeIn, all_weight}
+use Rattle.grammar.specs.Trees.{Tree, node, TreeIn, all_weight}
 use Rattle.estimate.specs.declared.rules.Rule.{Rule}
 use Rattle.estimate.specs.Weighing.{categories, tree_weight, Accepted, Lightest, Unproductive}
 use Rattle.estimate.specs.TreeRules.{TreeRule}

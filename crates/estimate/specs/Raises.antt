@@ -1,5 +1,5 @@
 -- What raises a row, and that the larger of two estimates keeps the laws. Assumes nothing.
-use Rattle.std.specs.Prelude.{◌≡◌, ℕ, ◌<◌, List, length, get_or, slice_index_or, refl}
+use Rattle.std.specs.Prelude.{◌≡◌, ℕ, List, get_or, slice_index_or, refl}
 use Rattle.std.proofs.Common.{sym, ap, subst, ◌∙◌}
 use Rattle.weight.specs.Algebra.{Algebra, Lawful, Le, larger}
 use Rattle.weight.proofs.Orders.{le_trans, le_plus, larger_least, larger_assoc, larger_keeps, first_le_larger, second_le_larger}

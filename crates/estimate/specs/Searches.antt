@@ -9,7 +9,7 @@
 --   Solved D row         the row has the lightest cost of each item
 --   Offered, Considered  what an offer leaves, and what a rule leaves
 --   opens row            how many items are not settled
-use Rattle.std.specs.Prelude.{◌≡◌, ℕ, suc, ◌<◌, Bool, false, ◌⊎◌, List, [], ◌∷◌, length, Some, None, Option, slice_index_or}
+use Rattle.std.specs.Prelude.{◌≡◌, ℕ, suc, ◌<◌, Bool, false, ◌⊎◌, List, [], ◌∷◌, Some, None, Option, slice_index_or}
 use Rattle.std.proofs.Common.{inl, inr}
 use Rattle.std.specs.List.{ContainsAt as Has}
 use Rattle.weight.specs.Algebra.{Algebra, Le}

@@ -1,18 +1,18 @@
 -- What is settled cheapest first has its lightest cost, and in the end nothing else has a derivation. Assumes nothing.
-use Rattle.std.specs.Prelude.{◌≡◌, ℕ, zero, suc, ◌+◌, ◌<◌, ◌≤◌, Bool, true, false, cond, ◌⊎◌, List, [], ◌∷◌, length, Some, None, Option, ◌≢◌}
+use Rattle.std.specs.Prelude.{◌≡◌, ℕ, zero, suc, ◌+◌, ◌<◌, ◌≤◌, Bool, true, false, cond, ◌⊎◌, List, [], ◌∷◌, Some, None, Option, ◌≢◌}
 use Rattle.std.proofs.Math.Path.{refl, ap}
 use Rattle.std.proofs.Common.{sym, subst, ◌∙◌}
 use Rattle.std.proofs.Math.Logic.{inl, inr}
 use native.Mathlib.Omega.{arith}
-use Rattle.std.proofs.lemmas.Bool.{eqb-true, eqb-false, eq-eqb, ne_eqb, cases_eq}
+use Rattle.std.proofs.lemmas.Bool.{eq-eqb, ne_eqb, cases_eq}
 use Rattle.weight.specs.Algebra.{Algebra, Lawful, Le}
-use Rattle.weight.proofs.Orders.{le_refl, le_trans, lt_le}
+use Rattle.weight.proofs.Orders.{le_refl, le_trans}
 use Rattle.grammar.specs.Formed.{Each}
 use Rattle.deduction.specs.Deduction.{System, Der, Ders, node, none, more, Derives, DerivesAll, cost, cost_all, sum}
 use Rattle.estimate.specs.declared.entry.Entry.{Entry}
 use Rattle.estimate.specs.declared.rules.Rule.{Rule}
 use Rattle.estimate.specs.Entries.{cheaper}
-use Rattle.estimate.specs.Rules.{premises_of, Numbered, system}
+use Rattle.estimate.specs.Rules.{premises_of, system}
 use Rattle.estimate.specs.Searches.{Reached, Found}
 use Rattle.estimate.specs.Settling.{cost_at, both, all_of, first, offer_of, cheapest, settled}
 use Rattle.estimate.specs.Cheaper.{not_out, cheaper_more}

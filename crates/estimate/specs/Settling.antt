@@ -4,7 +4,7 @@
 --   listed xs                the first three of a list, as premises
 --   light A m c              the lightest weight of c, if there is one
 --   category_weight A m c    the lightest chain from the start to c, or the ceiling; category_own is the value that holds it
-use Rattle.std.specs.Prelude.{ℕ, zero, suc, ◌*◌, ◌/◌, ◌%◌, Bool, true, false, cond, List, [], ◌∷◌, length, Some, None, Option, ◌==◌, nat_lt, slice_index}
+use Rattle.std.specs.Prelude.{ℕ, zero, suc, ◌*◌, ◌/◌, ◌%◌, cond, List, [], ◌∷◌, length, Some, None, Option, ◌==◌, nat_lt, slice_index}
 use Rattle.std.proofs.Common.{inl, inr}
 use Rattle.weight.specs.Algebra.{Algebra}
 use Rattle.grammar.specs.Grammars.{GrammarModel, production}

@@ -1,5 +1,5 @@
 -- Productions as rules, and that their derivations are the trees. Assumes nothing.
-use Rattle.std.specs.Prelude.{◌≡◌, ℕ, zero, suc, ◌<◌, ◌≤◌, ◌⊎◌, List, [], ◌∷◌, map, length, get_or, Some, None, Option, slice_index, slice_index_or, refl}
+use Rattle.std.specs.Prelude.{◌≡◌, ℕ, ◌<◌, ◌≤◌, List, [], ◌∷◌, map, length, get_or, Some, None, Option, slice_index, slice_index_or, refl}
 use Rattle.std.proofs.Common.{sym, ap, subst, ◌∙◌, inl, inr, arith}
 use Rattle.std.proofs.lemmas.List.{get_or-map, length-map}
 use Rattle.weight.specs.Algebra.{Algebra, Lawful, Le}
@@ -14,7 +14,7 @@ use Rattle.deduction.specs.Deduction.{System, Der, Ders, Derives, DerivesAll, co
 use Rattle.estimate.specs.declared.rules.Premises.{Premises}
 use Rattle.estimate.specs.declared.rules.Premises.TheVariants.{Nothing, One, Two, Three}
 use Rattle.estimate.specs.declared.rules.Rule.{Rule}
-use Rattle.estimate.specs.Weighing.{categories, tree_weight, Accepted, Lightest, Light}
+use Rattle.estimate.specs.Weighing.{categories, tree_weight, Accepted, Light}
 use Rattle.estimate.specs.Rules.{premises_of, Inside, system}
 use Rattle.estimate.specs.Searches.{Solved, at}
 use Rattle.estimate.specs.Settling.{listed}

@@ -1,4 +1,4 @@
-use Rattle.std.proofs.Common.{◌≡◌, sym, refl, ap, ◌∙◌, arith}
+use Rattle.std.proofs.Common.{◌≡◌, sym, ap, ◌∙◌, arith}
 use Rattle.deduction.specs.Deduction.{but}
 use Rattle.estimate.specs.ChainSteps.{but_one, but_two, but_first, but_second, but_third}
 use Rattle.estimate.proofs.chains.fellows.Goals as goal

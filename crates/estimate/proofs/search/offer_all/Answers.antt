@@ -1,16 +1,15 @@
-use Rattle.std.proofs.Common.{◌≡◌, ◌+◌, ◌<◌, length, None, sym, refl, ap, ◌∙◌, subst, arith}
+use Rattle.std.proofs.Common.{◌≡◌, ◌+◌, ◌<◌, sym, refl, ◌∙◌, subst, arith}
 use Rattle.agenda.specs.declared.agenda.Agenda.{Agenda}
 use Rattle.agenda.specs.Agendas.{room, entries, Sound}
 use Rattle.grammar.specs.Formed.{Each}
 use Rattle.estimate.specs.declared.entry.Entry.{Entry}
 use Rattle.estimate.specs.Entries.{cheaper, place}
-use Rattle.estimate.specs.Rules.{premises_of, Inside}
+use Rattle.estimate.specs.Rules.{premises_of}
 use Rattle.grammar.specs.Model.{model}
-use Rattle.estimate.specs.Weighing.{categories}
 use Rattle.estimate.specs.Searches.{AllOffered}
 use Rattle.estimate.proofs.Searching.{considered, consider_none}
 use Rattle.estimate.proofs.search.offer_all.Goals as goal
-use Rattle.estimate.proofs.search.offer_all.Goals.{in-Some, in-default}
+use Rattle.estimate.proofs.search.offer_all.Goals.{in-Some, in_default}
 
 pub consider-requires : goal.consider-requires
 consider-requires g c =
@@ -58,7 +57,7 @@ loop-k-preserved g c =
                 considered laws exact nothing n gives (g.met.R.Rules.one m low) row (entries was) (entries now) k so_far.0 so_far.1 w.in-Some.rule within w.in-Some.ensures told.considered,
           ) in
           subst P (sym w.agenda-is) next
-      | in-default w ↦
+      | in_default w ↦
           let next : P was = (
             inv.0,
             inv.1,

@@ -2,7 +2,6 @@ use Rattle.std.proofs.Common.{◌≡◌}
 use Rattle.agenda.specs.Agendas.{room, entries, Sound}
 use Rattle.estimate.specs.Entries.{cheaper, place}
 use Rattle.grammar.specs.Model.{model}
-use Rattle.estimate.specs.Weighing.{categories}
 use Rattle.estimate.specs.Searches.{AllOffered}
 use Rattle.estimate.proofs.search.offer_all.Given as goal
 

@@ -1,16 +1,14 @@
-use Rattle.std.proofs.Common.{◌≡◌, ℕ, suc, ◌<◌, ◌≤◌, List, ◌++◌, length, drop, set, replicate, Some, sym, refl, ap, ◌∙◌, subst, arith}
+use Rattle.std.proofs.Common.{◌≡◌, ◌<◌, ◌≤◌, List, length, set, sym, ap, ◌∙◌, subst, arith}
 use lib.ListN.{length-replicate}
-use Rattle.std.proofs.lemmas.List.{drop_all, length-set, append-nil}
-use Rattle.agenda.specs.Agendas.{room, entries}
+use Rattle.std.proofs.lemmas.List.{length-set}
+use Rattle.agenda.specs.Agendas.{entries}
 use Rattle.agenda.specs.Cells.{blank_cell}
-use Rattle.estimate.specs.declared.rules.Rule.{Rule}
 use Rattle.estimate.specs.Entries.{cheaper, place}
 use Rattle.estimate.specs.Rules.{system}
 use Rattle.grammar.specs.Model.{model}
 use Rattle.estimate.specs.Weighing.{categories}
-use Rattle.estimate.specs.Searches.{Searching, Solved, opens}
+use Rattle.estimate.specs.Searches.{Searching, opens}
 use Rattle.estimate.proofs.Searching.{begin, entry_inside, settle, turned, opens_less, solved, blanked}
-use Rattle.estimate.proofs.search.search.Given as given
 use Rattle.estimate.proofs.search.search.Goals as goal
 
 pub offer_all-requires : goal.offer_all-requires

@@ -1,4 +1,4 @@
-use Rattle.std.proofs.Common.{◌≡◌, [], ◌∷◌, Option, sym, refl, subst}
+use Rattle.std.proofs.Common.{[], ◌∷◌, sym, refl, subst}
 use Rattle.estimate.specs.declared.rules.Premises.{Premises}
 use Rattle.estimate.specs.Rules.{premises_of}
 use Rattle.estimate.specs.Searches.{Weighed}

@@ -1,4 +1,4 @@
-use Rattle.std.proofs.Common.{◌≡◌, Option, sym, subst}
+use Rattle.std.proofs.Common.{subst}
 use Rattle.estimate.specs.Searches.{Weighed}
 use Rattle.estimate.proofs.Searching.{with_nothing, with_open, with_both}
 use Rattle.estimate.proofs.search.with.Goals as goal

@@ -1,8 +1,8 @@
-use Rattle.std.proofs.Common.{◌≡◌, length, get_or, replicate, sym, refl, ap, ◌∙◌, subst, arith}
+use Rattle.std.proofs.Common.{replicate, ap, ◌∙◌, subst, arith}
 use Rattle.std.proofs.lemmas.List.{get_or_default}
 use Rattle.grammar.specs.Model.{model}
 use Rattle.grammar.proofs.Formed.{formed_is}
-use Rattle.estimate.specs.Weighing.{categories, Light}
+use Rattle.estimate.specs.Weighing.{Light}
 use Rattle.estimate.specs.TreeRules.{TreeRule}
 use Rattle.estimate.specs.TreeRulesLemmas.{rule_of, light_row}
 use Rattle.estimate.proofs.trees.lightest_whole.Goals as goal

@@ -1,4 +1,4 @@
-use Rattle.std.proofs.Common.{◌≡◌, ℕ, ◌*◌, refl, ap, ◌∙◌, arith}
+use Rattle.std.proofs.Common.{◌≡◌, ◌*◌, ap, ◌∙◌, arith}
 use Rattle.weight.specs.Odds.{Positive, same_number}
 use Rattle.estimate.proofs.capped.OddsCapped.ceiling.Goals as goal
 
