@@ -1,11 +1,11 @@
-use Rattle.std.proofs.Common.{sym, arith}
+use Rattle.std.proofs.Common.{sym}
 use Rattle.console.proofs.Numbering.{read_on, read_other, read_large, read_all}
 use Rattle.console.proofs.decimal.number_of.Goals as goal
 
-pub returns-then-not-is-ascii-digit : goal.returns-then-not-is-ascii-digit
-returns-then-not-is-ascii-digit c = record {
+pub returns-then-not-is_ascii_digit : goal.returns-then-not-is_ascii_digit
+returns-then-not-is_ascii_digit c = record {
   value = read_other c.args.most c.loop-c.value c.args.text.now c.loop-c.c-index _ c.loop-c-test.true
-      (sym c.if-not-is-ascii-digit.ensures.value) c.loop-c.invariant.0;
+      (sym c.if-not-is_ascii_digit.ensures.value) c.loop-c.invariant.0;
   bound = tt;
 }
 
@@ -18,7 +18,7 @@ returns-then-most-next c = record {
 pub loop-c-preserved : goal.loop-c-preserved
 loop-c-preserved c = (
   read_on c.args.most c.loop-c.value c.args.text.now c.loop-c.c-index _ c.loop-c-test.true
-      (sym c.if-not-is-ascii-digit.ensures.value) c.if-most-next.false c.loop-c.invariant.0,
+      (sym c.if-not-is_ascii_digit.ensures.value) c.if-most-next.false c.loop-c.invariant.0,
   c.if-most-next.false,
 )
 

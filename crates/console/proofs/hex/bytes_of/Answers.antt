@@ -8,7 +8,7 @@ loop-rest-preserved c =
     let rest = c.loop-rest.rest.now in
     let after = c.in-Some.after.now in
     let items = vec_items c.loop-rest.bytes in
-    ap (λ xs. behind xs (bytes_of after)) c.in-ok-push.ensures.items
+    ap (λ xs. behind xs (bytes_of after)) c.in_ok-push.ensures.items
     ∙ sym (behind_more items c.in-Some.byte (bytes_of after))
     ∙ ap (behind items) (sym (next_more rest after c.in-Some.byte c.in-Some.ensures))
     ∙ c.loop-rest.invariant

@@ -1,4 +1,3 @@
-use Rattle.std.proofs.Common.{arith}
 use Rattle.console.proofs.Spelling.{at_byte}
 use Rattle.console.proofs.hex.next_byte.Goals as goal
 

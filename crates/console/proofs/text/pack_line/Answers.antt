@@ -10,6 +10,6 @@ returns c =
     let m = model c.args.grammar.now in
     let productions : length c.productions-productions.result.now ≡ length m.productions =
     sym (length-map c.productions-productions.result.now production_model) ∙ ap length c.productions-productions.ensures in
-    c.in-ok-line.ensures
+    c.in_ok-line.ensures
     ∙ ap₂ (λ k n. counts_text k n c.start.result (length c.productions-productions.result.now)) c.kind.ensures (ap length c.dimensions-categories.ensures)
     ∙ ap₂ (λ s n. counts_text m.kind (length m.dimensions) s n) c.start.ensures productions

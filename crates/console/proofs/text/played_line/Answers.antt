@@ -12,7 +12,7 @@ front phrase before after n e f =
 pub returns-in-Ok : goal.returns-in-Ok
 returns-in-Ok c =
     let h = c.in-Ok.ensures.value in
-    IfOk-weaker c.tokens-line.result _ _
+    IfOk-weaker c.tokens_line.result _ _
     (λ s e. e ∙ ap (tokens_text (codes "phrase")) (front h.0 c.args.output.now c.replay.new.output c.in-Ok.length h.2.many h.2.output)
     ∙ ap played_text (sym h.1))
-    c.tokens-line.ensures
+    c.tokens_line.ensures

@@ -1,12 +1,12 @@
-use Rattle.std.proofs.Common.{◌++◌, map, string_bytes, sym, ap, ◌∙◌}
-use Rattle.console.specs.Texts.{listed, argument_text}
-use Rattle.console.proofs.Listing.{listed_more, listed_all, listed_map}
+use Rattle.std.proofs.Common.{string_bytes}
+use Rattle.console.specs.Texts.{argument_text}
+use Rattle.console.proofs.Listing.{listed_more, listed_all}
 use Rattle.console.proofs.text.push_arguments.Goals as goal
 
 pub loop-i-preserved : goal.loop-i-preserved
 loop-i-preserved c =
-    listed_more argument_text c.args.arguments.now (string_bytes c.args.out.now) (string_bytes c.loop-i.out) (string_bytes c.push-argument.new.out)
-    c.loop-i.i 0 c.loop-i-test.true c.in-ok-push-argument.ensures c.loop-i.invariant
+    listed_more argument_text c.args.arguments.now (string_bytes c.args.out.now) (string_bytes c.loop-i.out) (string_bytes c.push_argument.new.out)
+    c.loop-i.i 0 c.loop-i-test.true c.in_ok-push_argument.ensures c.loop-i.invariant
 
 pub returns : goal.returns
 returns c =

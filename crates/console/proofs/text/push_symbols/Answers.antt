@@ -6,8 +6,8 @@ use Rattle.console.proofs.text.push_symbols.Goals as goal
 
 pub loop-symbol-preserved : goal.loop-symbol-preserved
 loop-symbol-preserved c =
-    listed_more symbol_text c.args.symbols.now (string_bytes c.args.out.now) (string_bytes c.loop-symbol.out) (string_bytes c.push-symbol.new.out)
-    c.loop-symbol.symbol-index (symbol.Token 0) c.loop-symbol-test.true c.in-ok-push-symbol.ensures c.loop-symbol.invariant
+    listed_more symbol_text c.args.symbols.now (string_bytes c.args.out.now) (string_bytes c.loop-symbol.out) (string_bytes c.push_symbol.new.out)
+    c.loop-symbol.symbol-index (symbol.Token 0) c.loop-symbol-test.true c.in_ok-push_symbol.ensures c.loop-symbol.invariant
 
 pub returns : goal.returns
 returns c =

@@ -5,8 +5,8 @@ use Rattle.console.proofs.text.push_tokens.Goals as goal
 
 pub loop-token-preserved : goal.loop-token-preserved
 loop-token-preserved c =
-    listed_more token_text c.args.tokens.now (string_bytes c.args.out.now) (string_bytes c.loop-token.out) (string_bytes c.push-token.new.out)
-    c.loop-token.token-index 0 c.loop-token-test.true c.in-ok-push-token.ensures c.loop-token.invariant
+    listed_more token_text c.args.tokens.now (string_bytes c.args.out.now) (string_bytes c.loop-token.out) (string_bytes c.push_token.new.out)
+    c.loop-token.token-index 0 c.loop-token-test.true c.in_ok-push_token.ensures c.loop-token.invariant
 
 pub returns : goal.returns
 returns c =

@@ -7,4 +7,4 @@ use Rattle.console.proofs.session.Session.grammar.Goals as goal
 
 pub returns-in-None : goal.returns-in-None
 returns-in-None c =
-    IfOk-weaker c.no-pack-line.result _ _ (λ s e. e ∙ ap (λ o. listing (option_map model o)) (sym c.in-None.is)) c.no-pack-line.ensures
+    IfOk-weaker c.no_pack_line.result _ _ (λ s e. e ∙ ap (λ o. listing (option_map model o)) (sym c.in-None.is)) c.no_pack_line.ensures

@@ -7,17 +7,17 @@ use Rattle.console.specs.Texts.{played_text}
 use Rattle.console.specs.Sessions.{replaying}
 use Rattle.console.proofs.session.Session.replay.Goals as goal
 
-pub returns-in-ok-text : goal.returns-in-ok-text
-returns-in-ok-text c =
+pub returns-in_ok-text-in-Some : goal.returns-in_ok-text-in-Some
+returns-in_ok-text-in-Some c =
     let list = c.args.commands.now in
     let room = c.args.self.now.room in
-    let long : length c.deref-mut.result.now ≡ room = c.deref-mut.ensures.len ∙ c.in-ok-output.ensures.len in
-    c.in-ok-text.ensures
+    let long : length c.deref_mut.result.now ≡ room = c.deref_mut.ensures.len ∙ c.in_ok-output-in-Some.ensures.len in
+    c.in_ok-text-in-Some.ensures
     ∙ ap (λ n. played_text (replay_of (model c.in-Some.grammar) list n)) long
     ∙ ap (λ o. replaying (option_map model o) list room) (sym c.in-Some.is)
 
 pub returns-in-None : goal.returns-in-None
 returns-in-None c =
-    IfOk-weaker c.no-pack-line.result _ _
+    IfOk-weaker c.no_pack_line.result _ _
     (λ s e. e ∙ ap (λ o. replaying (option_map model o) c.args.commands.now c.args.self.now.room) (sym c.in-None.is))
-    c.no-pack-line.ensures
+    c.no_pack_line.ensures
