@@ -1,5 +1,5 @@
 -- What an agenda holds, and what each call does to it. Assumes nothing.
---   room a, cells_of a           how many cells were lent, and what they hold
+--   room a, cells_of a          how many cells were lent, and what they hold
 --   entries a                   the entries held, in the order in which they lie
 --   Sound lt index a            what every agenda keeps
 --   Bounded index xs n          the indices of xs lie below n

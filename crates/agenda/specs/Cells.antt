@@ -1,9 +1,9 @@
 -- What cells hold. Assumes nothing.
---   entries_of cells, slots_of cells   the two parts of each cell
---   held cells n                     the entries of the first n cells
+--   entries_of cells, slots_of cells  the two parts of each cell
+--   held cells n                      the entries of the first n cells
 --   blank_cell entry                  the cell that blanking leaves
---   Elsewhere i cells after          every cell but that at i is as it was
---   Untouched index xs cells after   every cell that xs cannot concern is as it was
+--   Elsewhere i cells after           every cell but that at i is as it was
+--   Untouched index xs cells after    every cell that xs cannot concern is as it was
 use Rattle.std.specs.Prelude.{◌≡◌, ℕ, ◌≤◌, List, map, length, take, ◌≢◌, slice_index_or}
 use Rattle.agenda.specs.Places.{Absent}
 use Rattle.agenda.specs.declared.cells.Cell.{Cell}

@@ -1,5 +1,5 @@
 -- Numbers as text. Assumes nothing.
---   read most v t    the number that v and then the digits t spell, if it is at most most
+--   read most v t     the number that v and then the digits t spell, if it is at most most
 --   number_of most t  the number that the text t spells
 use Rattle.std.specs.Prelude.{ℕ, ◌+◌, ◌-◌, ◌*◌, cond, ◌&&◌, List, [], ◌∷◌, Some, None, Option, nat_le}
 use Rattle.std.specs.Char.{is_ascii_digit}

@@ -2,7 +2,7 @@
 --   AllLightest A m cs ws   ws are the lightest weights of the categories cs
 --   Consistent A m e        no estimate is above what the way from its category to the start can weigh
 --   Sound A m e             what each estimate keeps
---   NowhereLower A m e f   at no category is e below f
+--   NowhereLower A m e f    at no category is e below f
 --   Raised                  a row became the larger of what it held and an estimate
 use Rattle.std.specs.Prelude.{◌≡◌, ℕ, ◌<◌, List, [], ◌∷◌, length, drop, slice_index, slice_index_or}
 use Rattle.weight.specs.Algebra.{Algebra, Le, larger, total}

@@ -1,6 +1,6 @@
 -- What the bytes of a pack say next, and which bytes are left. Assumes nothing.
 --   Bytes p     every number of p is a byte
---   next_of p    the first command of the bytes p with the rest, or why there is none
+--   next_of p   the first command of the bytes p with the rest, or why there is none
 --   bytes c     the bytes of the command c
 --   size c      how many they are
 --   closes c    whether c closes an open production

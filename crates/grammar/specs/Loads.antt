@@ -1,5 +1,5 @@
 -- What a whole pack loads to. Assumes nothing.
---   step      one command: the checks in their order, and then its effect
+--   step       one command: the checks in their order, and then its effect
 --   load_of p  the grammar that the pack p is taken for, or the stop
 use Rattle.std.specs.Prelude.{ℕ, zero, suc, ◌+◌, Bool, cond, List, [], ◌∷◌, length, Ok, Err, Result}
 use Rattle.grammar.specs.Grammars.{GrammarModel}

@@ -1,12 +1,12 @@
 -- Calls told by name: what each makes of a line or phrase, and the history that a list of them spells.
---   Content, content_of x, tokens_in k   tokens as a line or as a phrase; those that x holds; the tokens alone
---   after k c                          what the call c leaves of the content k
---   Reply, reply r, replied k c        what is answered to a call; by the result r; on the content k to c
+--   Content, content_of x, tokens_in k  tokens as a line or as a phrase; those that x holds; the tokens alone
+--   after k c                           what the call c leaves of the content k
+--   Reply, reply r, replied k c         what is answered to a call; by the result r; on the content k to c
 --   Past, keyed_in p                    a history in either mode; what it keyed
---   HeldOf p x                         x holds what the history p keyed
+--   HeldOf p x                          x holds what the history p keyed
 --   made p c, made_all p cs             the history p, and then the call c; and then all of cs
---   spelled cs                         the history that the calls cs spell on a fresh line
---   calls_in p, stops_in p               how many calls the history p has; how many of them were stopped
+--   spelled cs                          the history that the calls cs spell on a fresh line
+--   calls_in p, stops_in p              how many calls the history p has; how many of them were stopped
 use Rattle.std.specs.Prelude.{◌≡◌, ℕ, ◌+◌, List, [], ◌∷◌, Ok, Err, Result}
 use Rattle.line.specs.Stops.{Told, Done, Stop, number_of, figure_of}
 use Rattle.line.specs.Tokens.{tokens_of, phrase_of, added, rubbed, key_told, rub_told}

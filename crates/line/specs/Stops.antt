@@ -2,8 +2,8 @@
 --   number_of s   the number of the stop s
 --   figure_of s   its figure
 --   words_of s    its words, as they are shown
---   Told         what a call tells its caller
---   told r       what the result r tells
+--   Told          what a call tells its caller
+--   told r        what the result r tells
 use Rattle.std.specs.Prelude.{ℕ, List, Ok, Err, codes, Result}
 use Rattle.line.specs.Room.{room}
 use Rattle.line.specs.declared.stop.LineStop.{LineStop}

@@ -1,7 +1,7 @@
 -- The tokens of a line and of a phrase, as lists, and what the calls make of them.
 --   tokens_of l, phrase_of p   the tokens of the line l, of the phrase p
---   added ts t               ts with t keyed
---   rubbed ts                ts with the last token rubbed out
+--   added ts t                 ts with t keyed
+--   rubbed ts                  ts with the last token rubbed out
 --   key_told ts, rub_told ts   what key and rub tell on a line that holds ts
 use Rattle.std.specs.Prelude.{ℕ, ◌-◌, cond, List, [], ◌∷◌, ◌++◌, length, take, ◌==◌}
 use Rattle.line.specs.Room.{room}

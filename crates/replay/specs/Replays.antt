@@ -4,7 +4,7 @@
 --   Yields                   a stack of them, the topmost first
 --   perform r at stack       the command of the production r, at the offset at
 --   run g at bytes           the commands of these bytes from the last to the first, where the first byte stands at the offset at
---   replay_of g bytes room    the phrase, or the stop, where the output has this much room
+--   replay_of g bytes room   the phrase, or the stop, where the output has this much room
 use Rattle.std.specs.Prelude.{ℕ, ◌+◌, ◌%◌, Bool, true, false, cond, ◌&&◌, List, [], ◌∷◌, map, length, take, drop, Ok, Err, Result, ◌==◌, nat_le, nat_lt, slice_index_or}
 use Rattle.grammar.specs.Grammars.{ProductionModel, GrammarModel, production}
 use Rattle.grammar.specs.Commands.{wide}
