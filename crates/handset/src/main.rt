@@ -1,4 +1,6 @@
 // The handset's console.
+#![tactic(auto)]
+
 use std::io;
 
 fn main(rt: HostRuntime) -> io::Result<()> {

@@ -1,4 +1,6 @@
 // Packs on both sides of each limit, each command at each stage, and lines that ask for nothing, run through the console.
+#![tactic(auto)]
+
 use std::io;
 
 fn main(rt: HostRuntime) -> io::Result<()> {

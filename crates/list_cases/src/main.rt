@@ -1,4 +1,6 @@
 // Command lists that are replayed or stopped, run through the console.
+#![tactic(auto)]
+
 use std::io;
 
 fn main(rt: HostRuntime) -> io::Result<()> {
