@@ -22,7 +22,7 @@ pub trait Weight: Copy {
     // The value that holds none.
     ghost nothing: { Self };
 
-    // `KIND`, for generic code: a contract cannot cite an associated constant.
+    // `KIND`, for generic code.
     fn kind_number() -> u8
         ensures { result ≡ algebra.kind };
 
