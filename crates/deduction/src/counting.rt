@@ -2,22 +2,16 @@
 ghost use Rattle.deduction.specs.Counts.{OneNumber, RisingNumber, Exceeding};
 
 // A kind has one number.
-pub fn one_number_stands() -> u8
+pub fn one_number_stands()
     ensures { OneNumber }
-{
-    0
-}
+{}
 
 // A part of a kind has no larger number.
-pub fn rising_number_stands() -> u8
+pub fn rising_number_stands()
     ensures { RisingNumber }
-{
-    0
-}
+{}
 
 // There are more than b exactly where the number is above b.
-pub fn exceeding_stands() -> u8
+pub fn exceeding_stands()
     ensures { Exceeding }
-{
-    0
-}
+{}

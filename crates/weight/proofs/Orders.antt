@@ -1,6 +1,10 @@
 -- What the laws of exact weights give: the order, the combination and the larger of two. Assumes nothing.
 use Rattle.std.proofs.Common.{◌≡◌, ◌⊎◌, sym, refl, ap, ◌∙◌, subst, inl, inr}
-use Rattle.weight.specs.Algebra.{Algebra, Lawful, Le, larger, larger_of}
+use Rattle.std.specs.Prelude.{cond}
+use Rattle.std.specs.Ordering.{is_lt}
+use Rattle.std.specs.declared.cmp.Ordering.TheVariants.{Less, Equal, Greater}
+use Rattle.std.specs.declared.cmp.Ordering.{Ordering}
+use Rattle.weight.specs.Algebra.{Algebra, Lawful, Le, Compared, larger, larger_of}
 
 module _ {A : Algebra} (laws : Lawful A) where
   pub le_refl : (a : A.Exact) → Le A a a
@@ -117,6 +121,12 @@ module _ {A : Algebra} (laws : Lawful A) where
           | inl e ↦ absurd (le_eq (exact w) (exact v) (sym e) h)
           | inr o ↦ elim o as (λ d. elim d [ inl _ ↦ w | inr _ ↦ v ] ≡ w) [ inl l ↦ refl | inr l ↦ absurd (lt_le (exact w) (exact v) l h) ]
         ]
+
+    -- the larger, by a comparison
+    pub larger_compared : (v w : W) (r : Ordering) → Compared A (exact v) (exact w) r → larger A exact v w ≡ cond (is_lt r) w v
+    larger_compared v w Less h = larger_second v w h
+    larger_compared v w Equal h = larger_first v w (le_eq (exact w) (exact v) (sym h))
+    larger_compared v w Greater h = larger_first v w (lt_le (exact w) (exact v) h)
 
     -- the larger is not below either
     pub first_le_larger : (v w : W) → Le A (exact v) (exact (larger A exact v w))

@@ -1,13 +1,9 @@
--- Sums and odds keep the laws of weights, and each of their values is fixed by its number. Assumes nothing.
-use Rattle.std.specs.Prelude.{◌≡◌, ◌≤◌}
-use mathlib.Core.HLevel.{is_prop→PathP}
-use Rattle.std.proofs.Math.Bridge.{le_prop}
-use Rattle.std.proofs.Common.{mul-lt-mul_of_pos_right, mul_comm, mul_assoc, one-mul, arith}
+-- The laws of sums and of odds: both are numbers, and keep the laws of weights. Assumes nothing.
+use Rattle.std.proofs.Common.{mul-lt-mul_of_pos_right, mul_comm, mul_assoc, one-mul, arith, refl, rules}
 use Rattle.weight.specs.Algebra.{Lawful}
-use Rattle.weight.specs.Sums.{most_sum}
+use Rattle.weight.specs.Numbers.{Numbers}
+use Rattle.weight.specs.Sums.{sums, most_sum}
 use Rattle.weight.specs.Odds.{odds, most_odds, same_number}
-use Rattle.weight.specs.declared.odds.Odds.{Odds}
-use Rattle.weight.specs.declared.sums.Sums.{Sums}
 
 pub odds_lawful : Lawful odds
 odds_lawful = record {
@@ -27,13 +23,31 @@ odds_lawful = record {
   rising = λ a b h g. h;
 }
 
-pub sums_same : (v w : Sums) → v.value ≡ w.value → v ≡ w
-sums_same v w p = λ i. record { value = p i; within = is_prop→PathP (λ j. p j ≤ most_sum) (λ j. le_prop) v.within w.within i }
+pub sums_lawful : Lawful sums
+sums_lawful = search rules
 
-pub odds_same : (v w : Odds) → v.value ≡ w.value → v ≡ w
-odds_same v w p =
-    λ i. record {
-      value = p i;
-      positive = is_prop→PathP (λ j. 1 ≤ p j) (λ j. le_prop) v.positive w.positive i;
-      within = is_prop→PathP (λ j. p j ≤ most_odds) (λ j. le_prop) v.within w.within i;
-    }
+abbrev pub sum_numbers : Numbers sums 0 most_sum
+sum_numbers = record {
+  lawful = sums_lawful;
+  weight = λ n h. n;
+  shows = λ n h. refl;
+  once = λ a b e. e;
+  from = λ a. omega arith;
+  rises = λ a b h. h;
+  none = refl;
+  ceiling = refl;
+  taken = λ n h. refl;
+}
+
+abbrev pub odds_numbers : Numbers odds 1 most_odds
+odds_numbers = record {
+  lawful = odds_lawful;
+  weight = λ n h. record { number = n; positive = h };
+  shows = λ n h. refl;
+  once = λ a b e. same_number e;
+  from = λ a. a.positive;
+  rises = λ a b h. h;
+  none = refl;
+  ceiling = refl;
+  taken = λ n h. omega (arith, h);
+}

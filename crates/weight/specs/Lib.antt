@@ -3,5 +3,6 @@
 pub mod Algebra
 pub mod Sums
 pub mod Odds
-pub mod Held
+pub mod Numbers
+pub mod NumberValues
 pub mod KindLaws

@@ -3,27 +3,19 @@ ghost use Rattle.std.specs.Prelude.{◌≡◌};
 ghost use Rattle.weight.specs.Algebra.{larger, total, Within};
 
 use crate::weight::Weight;
-use std::cmp::Ordering;
 
-// The value that holds more, the first where both hold the same.
+// The value that holds more, the first where both hold the same: `max` takes its argument there.
 pub fn larger<W: Weight>(x: W, y: W) -> W
     ensures { result ≡ larger W.algebra W.exact x y }
 {
-    match x.compare(y) {
-        Ordering::Less => y,
-        Ordering::Equal => x,
-        Ordering::Greater => x,
-    }
+    y.max(x)
 }
 
 // The combination of three, or nothing where it is above the ceiling.
 pub fn combine3<W: Weight>(x: W, y: W, z: W) -> Option<W>
     ensures { Within W.algebra W.exact result (W.algebra.plus (W.algebra.plus (W.exact x) (W.exact y)) (W.exact z)) }
 {
-    match x.combine(y) {
-        Some(both) => both.combine(z),
-        None => None,
-    }
+    x.combine(y)?.combine(z)
 }
 
 // The combination of all, or nothing where it is above the ceiling.

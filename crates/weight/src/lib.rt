@@ -2,6 +2,7 @@
 #![tactic(auto)]
 
 pub mod combining;
+pub mod number;
 pub mod odds;
 pub mod sums;
 pub mod weight;

@@ -1,12 +1,41 @@
 // Odds: weights that multiply up to four thousand million.
-ghost use Rattle.std.specs.Prelude.{◌≤◌};
-ghost use Rattle.weight.specs.Odds.{most_odds};
+ghost use Rattle.std.specs.Prelude.{refl};
+ghost use Rattle.weight.specs.Odds.{odds, most_odds};
+ghost use Rattle.weight.specs.KindLaws.{odds_numbers};
 
-pub mod weighing;
+use crate::number::{Joining, Number};
+use crate::weight::WeightNumber;
 
-#[derive(Clone, Copy)]
-pub struct Odds {
-    value: u32,
-    ghost positive: { 1 ≤ value },
-    ghost within: { value ≤ most_odds },
+pub struct Multiplying;
+
+pub type Odds = Number<Multiplying>;
+
+impl Joining for Multiplying {
+    const KIND: u8 = 1;
+
+    const LEAST: WeightNumber = 2;
+
+    const NONE: u32 = 1;
+
+    const CEILING: u32 = 4_000_000_000;
+
+    ghost KIND = { 1 };
+
+    ghost LEAST = { 2 };
+
+    ghost NONE = { 1 };
+
+    ghost CEILING = { most_odds };
+
+    ghost algebra = { odds };
+
+    ghost numbers = { odds_numbers };
+
+    ghost kind = { refl };
+
+    ghost least = { refl };
+
+    fn join(a: u32, b: u32) -> u64 {
+        a as u64 * b as u64
+    }
 }

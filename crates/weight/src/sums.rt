@@ -1,11 +1,41 @@
 // Sums: weights that add up to a thousand million.
-ghost use Rattle.std.specs.Prelude.{◌≤◌};
-ghost use Rattle.weight.specs.Sums.{most_sum};
+ghost use Rattle.std.specs.Prelude.{refl};
+ghost use Rattle.weight.specs.Sums.{sums, most_sum};
+ghost use Rattle.weight.specs.KindLaws.{sum_numbers};
 
-pub mod weighing;
+use crate::number::{Joining, Number};
+use crate::weight::WeightNumber;
 
-#[derive(Clone, Copy)]
-pub struct Sums {
-    value: u32,
-    ghost within: { value ≤ most_sum },
+pub struct Adding;
+
+pub type Sums = Number<Adding>;
+
+impl Joining for Adding {
+    const KIND: u8 = 0;
+
+    const LEAST: WeightNumber = 1;
+
+    const NONE: u32 = 0;
+
+    const CEILING: u32 = 1_000_000_000;
+
+    ghost KIND = { 0 };
+
+    ghost LEAST = { 1 };
+
+    ghost NONE = { 0 };
+
+    ghost CEILING = { most_sum };
+
+    ghost algebra = { sums };
+
+    ghost numbers = { sum_numbers };
+
+    ghost kind = { refl };
+
+    ghost least = { refl };
+
+    fn join(a: u32, b: u32) -> u64 {
+        a as u64 + b as u64
+    }
 }

@@ -1,17 +1,19 @@
 // What a weight kind is: a type that holds exactly the exact weights not above a ceiling.
-ghost use Rattle.std.specs.Prelude.{◌≡◌};
+ghost use Rattle.std.specs.Prelude.{◌≡◌, ℕ};
 ghost use Rattle.weight.specs.Algebra.{Algebra, Lawful, Le, Compared, Within, Taken};
-
-use std::cmp::Ordering;
 
 // A weight as a pack writes it.
 pub type WeightNumber = u16;
 
-pub trait Weight: Copy {
+pub trait Weight: Copy + Ord {
     // The kind's number in a pack, and the least weight number that it takes.
     const KIND: u8;
 
     const LEAST: WeightNumber;
+
+    ghost KIND: { ℕ };
+
+    ghost LEAST: { ℕ };
 
     // The exact weights, with their order and their combination.
     ghost algebra: { Algebra };
@@ -22,14 +24,7 @@ pub trait Weight: Copy {
     // The value that holds none.
     ghost nothing: { Self };
 
-    // `KIND`, for generic code.
-    fn kind_number() -> u8
-        ensures { result ≡ algebra.kind };
-
-    // `LEAST`, for generic code.
-    fn least_number() -> WeightNumber
-        ensures { result ≡ algebra.least };
-
+    // The value that holds none.
     fn none() -> Self
         ensures { result ≡ nothing };
 
@@ -41,13 +36,17 @@ pub trait Weight: Copy {
     fn combine(self, other: Self) -> Option<Self>
         ensures { Within algebra exact result (algebra.plus (exact self) (exact other)) };
 
-    fn compare(self, other: Self) -> Ordering
-        ensures { Compared algebra (exact self) (exact other) result };
-
     fn show(self) -> u32
         ensures { result ≡ algebra.shown (exact self) };
 
     ghost lawful: { Lawful algebra };
+
+    // The constants are those of the exact weights, and the values are ordered as they are.
+    ghost kind: { KIND ≡ algebra.kind };
+
+    ghost least: { LEAST ≡ algebra.least };
+
+    ghost compared: { (v w : Self) → Compared algebra (exact v) (exact w) (Self.cmp v w) };
 
     // The values hold the exact weights not above the ceiling, all of them, each once.
     ghost within: { (w : Self) → Le algebra (exact w) algebra.ceiling };
