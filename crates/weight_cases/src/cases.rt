@@ -8,17 +8,12 @@ use weight::weight::{Weight, WeightNumber};
 pub fn pair<W: Weight>(m: WeightNumber, n: WeightNumber) -> Option<W>
     ensures { Paired W.algebra W.exact result m n }
 {
-    let a = W::take(m)?;
-    let b = W::take(n)?;
-    a.combine(b)
+    W::take(m)?.combine(W::take(n)?)
 }
 
 // The number that a weight shows, or 0 for nothing.
 pub fn shown<W: Weight>(w: Option<W>) -> u32
     ensures { Shown W.algebra W.exact w result }
 {
-    match w {
-        Some(v) => v.show(),
-        None => 0,
-    }
+    w.map_or(0, W::show)
 }

@@ -10,44 +10,53 @@ use std::io;
 use weight::combining::{combine_all, combine3, larger};
 use weight::odds::Odds;
 use weight::sums::Sums;
-use weight::weight::Weight;
+use weight::weight::{Weight, WeightNumber};
 
 fn main(rt: HostRuntime) -> io::Result<()> {
+    numbers::<Sums>(rt, "sums", 0, 1)?;
     sums(rt)?;
-    odds(rt)?;
+    numbers::<Odds>(rt, "odds", 1, 2)?;
+    ceiling::<Odds>(rt, "odds", pair(62500, 64000), pair(62500, 64001))?;
     gradeds(rt)
 }
 
+// What a kind makes of a number below its least, of its least, and of the largest.
+fn numbers<W: Weight>(
+    rt: HostRuntime,
+    name: &str,
+    below: WeightNumber,
+    least: WeightNumber,
+) -> io::Result<()> {
+    let kind = W::KIND;
+    let none = W::none().show();
+    let nothing = shown(W::take(below));
+    let low = shown(W::take(least));
+    let most = shown(W::take(65535));
+    println!(rt; "{name} {kind}: none {none}, {below} {nothing}, {least} {low}, 65535 {most}")
+}
+
+// A combination at the ceiling, and one above it.
+fn ceiling<W: Weight>(
+    rt: HostRuntime,
+    name: &str,
+    at: Option<W>,
+    above: Option<W>,
+) -> io::Result<()> {
+    let full = shown(at);
+    let over = shown(above);
+    println!(rt; "{name}: the ceiling {full}, above it {over}")
+}
+
 fn sums(rt: HostRuntime) -> io::Result<()> {
-    let kind = Sums::kind_number();
-    let none = Sums::none().show();
-    let low = shown(Sums::take(0));
-    let least = shown(Sums::take(1));
-    let most = shown(Sums::take(65535));
-    println!(rt; "sums {kind}: none {none}, 0 {low}, 1 {least}, 65535 {most}")?;
     let Some(step) = Sums::take(62500) else {
         return Ok(());
     };
     let row = [step; 16001];
-    let full = shown(combine_all(&row[0..16000]));
-    let over = shown(combine_all(&row));
-    println!(rt; "sums: the ceiling {full}, above it {over}")
-}
-
-fn odds(rt: HostRuntime) -> io::Result<()> {
-    let kind = Odds::kind_number();
-    let none = Odds::none().show();
-    let low = shown(Odds::take(1));
-    let least = shown(Odds::take(2));
-    let most = shown(Odds::take(65535));
-    println!(rt; "odds {kind}: none {none}, 1 {low}, 2 {least}, 65535 {most}")?;
-    let full = shown(pair::<Odds>(62500, 64000));
-    let over = shown(pair::<Odds>(62500, 64001));
-    println!(rt; "odds: the ceiling {full}, above it {over}")
+    ceiling(rt, "sums", combine_all(&row[0..16000]), combine_all(&row))
 }
 
 fn gradeds(rt: HostRuntime) -> io::Result<()> {
-    let kind = Graded::kind_number();
+    let kind = Graded::KIND;
     let a = Graded::of(1, 2);
     let b = Graded::of(2, 1);
     let c = Graded::of(0, 3);
