@@ -1,5 +1,5 @@
--- What weights are. Algebra: exact weights and their laws; Sums and Odds: those of the two kinds; Held: the values that hold none.
--- KindLaws has lemmas alone: that the two kinds keep the laws.
+-- What weights are. Algebra: exact weights and their laws; Sums and Odds: those of the two kinds.
+-- Numbers: when the exact weights of a kind are numbers; NumberValues: the values that hold them; KindLaws: sums and odds are numbers, and keep the laws.
 pub mod Algebra
 pub mod Sums
 pub mod Odds

@@ -1,5 +1,4 @@
--- Weights that are numbers. Assumes nothing.
---   Numbers A low high   the exact weights of A are the numbers from low on, and those up to high are held
+-- Exact weights that are numbers, and what follows for each of them. Assumes nothing.
 use Rattle.std.specs.Prelude.{◌≡◌, ℕ, ◌<◌, ◌≤◌}
 use Rattle.std.specs.Ordering.{nat_cmp, MatchOrdering}
 use Rattle.std.proofs.Common.{inl, inr, sym, ap, subst, ◌∙◌, arith}
@@ -8,7 +7,7 @@ use Rattle.std.specs.declared.cmp.Ordering.TheVariants.{Less, Equal, Greater}
 use Rattle.std.specs.declared.cmp.Ordering.{Ordering}
 use Rattle.weight.specs.Algebra.{Algebra, Lawful, Le, Compared, widest}
 
--- The exact weights of A are the numbers from low on, each by the number that it shows; none is low, and the ceiling is high.
+-- The exact weights of A are the numbers from low on: each shows its own, and no two the same. None shows low, and the ceiling high.
 pub record Numbers (A : Algebra) (low high : ℕ) : Type 0 where
   pub lawful : Lawful A
   pub weight : (n : ℕ) → low ≤ n → A.Exact

@@ -11,6 +11,7 @@ pub mod weighing;
 
 // How the numbers of a kind combine.
 pub trait Joining {
+    // The kind's number in a pack, and the least weight number that it takes.
     const KIND: u8;
 
     const LEAST: WeightNumber;
@@ -28,6 +29,7 @@ pub trait Joining {
 
     ghost CEILING: { ℕ };
 
+    // The exact weights, and that they are the numbers from none on.
     ghost algebra: { Algebra };
 
     ghost numbers: { Numbers algebra NONE CEILING };
@@ -41,6 +43,7 @@ pub trait Joining {
     ghost least: { LEAST ≡ algebra.least };
 }
 
+// A number from that of none up to the ceiling.
 #[derive(Drop)]
 #[derive_where(PartialEq, Eq, PartialOrd, Ord)]
 pub struct Number<J: Joining> {
