@@ -1,6 +1,10 @@
 pub mod Decided
+pub mod Ranks
 pub mod Sifts
 pub mod Ends
 pub mod Moves
 pub mod Parts
 pub mod Members
+pub mod Puts
+pub mod Tables
+pub mod Offers

@@ -4,15 +4,16 @@ use Rattle.std.specs.List.Sorted.{IsPermutation}
 use Rattle.std.specs.List.{ContainsAt as Has}
 use Rattle.std.proofs.lemmas.List.Edits.{swap_is}
 use Rattle.std.proofs.ByRecursion.{has_get_or, has_shuffled}
-use Rattle.std.proofs.lemmas.List.{same_lists, get_or-drop, get_or-set_same, get_or-set_other, length-drop}
+use Rattle.std.proofs.lemmas.List.{same_lists, get_or-drop, get_or-set_same, get_or-set_other, length-drop, length-map}
 use Rattle.std.proofs.lemmas.List.Sorted.{IsPermutation-swap, IsPermutation-sym, IsPermutation-cons, IsPermutation-trans}
 use Rattle.std.proofs.lemmas.Bool.{cases_eq, cases_lt}
 use Rattle.agenda.specs.Orders.{First}
 use Rattle.agenda.specs.Places.{Placed, Absent, Present, Improved}
-use Rattle.agenda.specs.Cells.{Untouched}
+use Rattle.agenda.specs.Cells.{held, slots_of, Untouched}
 use Rattle.agenda.specs.Agendas.{Bounded, Pushed, Taken, Replaced, Improves}
 use Rattle.agenda.specs.declared.cells.Cell.{Cell}
 use Rattle.agenda.proofs.Moves.{apart}
+use Rattle.agenda.proofs.Parts.{held_length}
 
 -- numbers below n that differ for each i below m are not more than n
 module _ (f : ℕ → ℕ) where
@@ -172,6 +173,14 @@ module _ {X : Type 0} (ix : X → ℕ) where
       one_at zero (suc j) l m q = absurd (none j e (omega arith) (sym q))
       one_at (suc i) zero l m q = absurd (none i e (omega arith) q)
       one_at (suc i) (suc j) l m q = ap suc (apart (λ k. ix (get_or xs k e)) slots (length xs) (placed e) i j (omega arith) (omega arith) q)
+
+  -- of cells too, of which the first n hold entries
+  pub room_for : (e : X) (cells : List (Cell X)) (n : ℕ) → n ≤ length cells → Placed ix (held cells n) (slots_of cells) → ix e < length cells → Absent ix (held cells n) (ix e) → n < length cells
+  room_for e cells n in' placed within none =
+      let deep = length-map cells (λ x. x.slot) in
+      let front = held_length cells n in' in
+      let h = space e (held cells n) (slots_of cells) placed (omega arith) none in
+      omega arith
 
   -- cells at and beyond n, where n bounds the indices
   pub beyond : (xs : List X) (cells after : List (Cell X)) (n : ℕ) → length after ≡ length cells → length xs ≤ n → Bounded ix xs n → Untouched ix xs cells after → drop n after ≡ drop n cells

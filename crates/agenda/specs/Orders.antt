@@ -1,4 +1,5 @@
 -- Total orders, and heaps over them. Assumes nothing.
+--   before cmp              the test that cmp gives: whether one comes strictly before another
 --   Ordered lt              lt is the test of a strict total order
 --   decided order           the test that an order gives which tells how any two lie
 --   Heap lt xs              no child comes before its parent, the children of p being at 2p + 1 and 2p + 2
@@ -7,7 +8,13 @@
 --   FirstChild lt xs j c    of the children of j, none comes before the one at c
 --   First lt x xs           no entry of xs comes before x
 use Rattle.std.specs.Prelude.{◌≡◌, ℕ, ◌+◌, ◌*◌, ◌<◌, ◌≤◌, Bool, true, false, ◌⊎◌, List, length, get_or, ◌≢◌, slice_index_or}
+use Rattle.std.specs.declared.cmp.Ordering.{Ordering}
+use Rattle.std.specs.Ordering.{is_lt}
 use Rattle.std.proofs.Common.{inl, inr}
+
+-- Whether x comes strictly before y, by the order that cmp tells.
+abbrev pub before : {X : Type 0} → (X → X → Ordering) → X → X → Bool
+before cmp x y = is_lt (cmp x y)
 
 -- lt is the test of a total order: x comes strictly before y.
 pub record Ordered {X : Type 0} (lt : X → X → Bool) : Type 0 where

@@ -1,11 +1,15 @@
 // An agenda in a lent slice.
-use crate::cells::Cell;
+ghost use Rattle.agenda.specs.Orders.{Heap, before};
+ghost use Rattle.agenda.specs.Cells.{held};
 
-// The first `len` cells hold the heap; an index below the number of cells can be held.
+use crate::entry::Slotted;
+use crate::table::Table;
+
+// A table as a binary heap: no child comes before its parent. An index below the number of cells can be held.
 #[derive(Drop)]
-pub struct Agenda<'a, E> {
-    cells: &'a mut [Cell<E>],
-    len: usize,
+pub struct Agenda<'a, E: Slotted> {
+    table: Table<'a, E>,
+    pub ghost heap: { Heap (before E.cmp) (held table.cells.now table.len) },
 }
 
 mod calls;

@@ -1,12 +1,14 @@
-// The cells of an agenda, and reads and writes of one of their two parts.
-ghost use Rattle.std.specs.Prelude.{◌≡◌, ℕ, ◌<◌, ◌≤◌, ◌++◌, length, drop, replicate, slice_index, slice_index_or, slice_set};
-ghost use Rattle.agenda.specs.Cells.{entries_of, slots_of, blank_cell, Elsewhere};
+// The cells of an agenda, and writes to them.
+ghost use Rattle.std.specs.Prelude.{◌≡◌, ◌<◌, ◌≤◌, ◌++◌, length, drop, replicate};
+ghost use Rattle.agenda.specs.Cells.{blank_cell, Put};
+
+use crate::entry::Slotted;
 
 // An entry of the heap, and beside it where the heap has the entry whose index is this cell's place.
 #[derive(Clone, Copy)]
 pub struct Cell<E> {
-    entry: E,
-    slot: usize,
+    pub(crate) entry: E,
+    pub(crate) slot: usize,
 }
 
 impl<E: Copy> Cell<E> {
@@ -23,39 +25,15 @@ pub fn blank<E: Copy>(cells: &mut [Cell<E>], n: usize, fill: E)
     requires { n ≤ length cells.old }
     ensures { cells.new ≡ replicate n (blank_cell fill) ++ drop n cells.old }
 {
-    for i in 0..n {
-        cells[i] = Cell::new(fill);
-    }
+    cells[..n].fill_with(|| Cell::new(fill));
 }
 
-pub fn entry_at<E: Copy>(cells: &[Cell<E>], i: usize) -> E
-    requires { i < length cells.now }
-    ensures { (d : E) → result ≡ slice_index_or (entries_of cells.now) i d }
-{
-    cells[i].entry
-}
-
-pub fn slot_at<E: Copy>(cells: &[Cell<E>], k: usize) -> usize
-    requires { k < length cells.now }
-    ensures { result ≡ slice_index (slots_of cells.now) k }
-{
-    cells[k].slot
-}
-
-pub fn put_entry<E: Copy>(cells: &mut [Cell<E>], i: usize, e: E)
-    requires { i < length cells.old }
-    ensures entries { entries_of cells.new ≡ slice_set (entries_of cells.old) i e }
-    ensures slots { slots_of cells.new ≡ slots_of cells.old }
-    ensures elsewhere { Elsewhere i cells.old cells.new }
+// Puts e in the cell at i, and notes in the slot of its index that it lies there.
+pub fn put<E: Slotted>(cells: &mut [Cell<E>], i: usize, e: E)
+    requires { (i < length cells.old) × (E.index e < length cells.old) }
+    ensures { Put E.index e i cells.old cells.new }
 {
     cells[i].entry = e;
-}
-
-pub fn put_slot<E: Copy>(cells: &mut [Cell<E>], k: usize, i: usize)
-    requires { k < length cells.old }
-    ensures entries { entries_of cells.new ≡ entries_of cells.old }
-    ensures slots { slots_of cells.new ≡ slice_set (slots_of cells.old) k i }
-    ensures elsewhere { Elsewhere k cells.old cells.new }
-{
+    let k = e.slot_index();
     cells[k].slot = i;
 }

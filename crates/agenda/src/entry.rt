@@ -1,21 +1,13 @@
-// What an agenda asks of its entries: a total order, and an index.
-ghost use Rattle.std.specs.Prelude.{◌≡◌, ℕ, Bool};
-ghost use Rattle.agenda.specs.Orders.{Ordered};
+// What an agenda asks of its entries: a total order, in which entries of one rank are one, and an index.
+ghost use Rattle.std.specs.Prelude.{◌≡◌, ℕ};
+ghost use Rattle.std.specs.declared.cmp.Ordering.TheVariants.{Equal};
 
-pub trait Rank {
-    // Whether the first comes strictly before the second.
-    ghost lt: { Self → Self → Bool };
-
-    fn before(&self, other: &Self) -> bool
-        ensures { result ≡ lt self.now other.now };
-
-    ghost order: { Ordered lt };
-}
-
-// An agenda holds at most one entry of an index.
-pub trait Slotted: Rank {
+// `Ord` says which entry comes first. An agenda holds at most one entry of an index.
+pub trait Slotted: Ord + Copy {
     ghost index: { Self → ℕ };
 
     fn slot_index(&self) -> usize
         ensures { result ≡ index self.now };
+
+    ghost alike: { (x y : Self) → Self.cmp x y ≡ Equal → x ≡ y };
 }

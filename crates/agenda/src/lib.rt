@@ -4,8 +4,8 @@
 mod agenda;
 mod cells;
 mod entry;
-mod heap;
+mod table;
 
 pub use agenda::Agenda;
 pub use cells::{Cell, blank};
-pub use entry::{Rank, Slotted};
+pub use entry::Slotted;

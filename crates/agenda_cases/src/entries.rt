@@ -1,52 +1,49 @@
 // Tasks, the cheapest first, and peaks, the highest first.
-ghost use Rattle.agenda_cases.specs.Orders.{cheaper, node_of, higher, place_of};
-ghost use Rattle.std.specs.Prelude.{ltb};
-ghost use Rattle.agenda_cases.specs.Lexical.{rising, lexical, falling};
+ghost use Rattle.std.specs.Prelude.{◌≡◌};
+ghost use Rattle.agenda_cases.specs.Orders.{node_of, place_of, peak, tasks_alike, peaks_alike};
 
-use agenda::{Rank, Slotted};
+use agenda::Slotted;
+use std::cmp::Reverse;
 
-#[derive(Clone, Copy)]
+// By cost, and at one cost by node.
+#[derive(Clone, Copy, PartialEq, Eq, PartialOrd, Ord)]
 pub struct Task {
     pub cost: u64,
     pub node: u32,
 }
 
-impl Rank for Task {
-    ghost lt = { cheaper };
-
-    ghost order = { lexical ltb rising (λ t. t.cost) (λ t. t.node) (λ x y p q. λ i. record { cost = p i; node = q i }) };
-
-    fn before(&self, other: &Task) -> bool {
-        self.cost < other.cost || (self.cost == other.cost && self.node < other.node)
-    }
-}
-
 impl Slotted for Task {
     ghost index = { node_of };
+
+    ghost alike = { tasks_alike };
 
     fn slot_index(&self) -> usize {
         self.node as usize
     }
 }
 
-#[derive(Clone, Copy)]
+// By height from the top, and at one height by place.
+#[derive(Clone, Copy, PartialEq, Eq, PartialOrd, Ord)]
 pub struct Peak {
-    pub height: u16,
+    pub height: Reverse<u16>,
     pub place: u8,
 }
 
-impl Rank for Peak {
-    ghost lt = { higher };
-
-    ghost order = { lexical (λ x y. ltb y x) falling (λ p. p.height) (λ p. p.place) (λ x y p q. λ i. record { height = p i; place = q i }) };
-
-    fn before(&self, other: &Peak) -> bool {
-        other.height < self.height || (self.height == other.height && self.place < other.place)
+impl Peak {
+    pub fn new(height: u16, place: u8) -> Peak
+        ensures { result ≡ peak height place }
+    {
+        Peak {
+            height: Reverse(height),
+            place,
+        }
     }
 }
 
 impl Slotted for Peak {
     ghost index = { place_of };
+
+    ghost alike = { peaks_alike };
 
     fn slot_index(&self) -> usize {
         self.place as usize

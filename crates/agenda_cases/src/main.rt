@@ -6,8 +6,9 @@ mod uses;
 
 use agenda::{Agenda, Cell, blank};
 use entries::{Peak, Task};
+use std::cmp::Reverse;
 use std::io;
-use uses::{inside, offer};
+use uses::inside;
 
 fn main(rt: HostRuntime) -> io::Result<()> {
     tasks(rt)?;
@@ -18,57 +19,26 @@ fn main(rt: HostRuntime) -> io::Result<()> {
 fn tasks(rt: HostRuntime) -> io::Result<()> {
     let mut cells = [Cell::new(Task { cost: 0, node: 0 }); 8];
     let mut a = Agenda::new(&mut cells);
-    offer(&mut a, Task { cost: 50, node: 5 });
-    offer(&mut a, Task { cost: 20, node: 2 });
-    offer(&mut a, Task { cost: 30, node: 3 });
-    offer(&mut a, Task { cost: 20, node: 7 });
-    offer(&mut a, Task { cost: 10, node: 5 });
-    offer(&mut a, Task { cost: 99, node: 2 });
-    while let Some(t) = a.pop() {
-        let cost = t.cost;
-        let node = t.node;
+    a.offer(Task { cost: 50, node: 5 });
+    a.offer(Task { cost: 20, node: 2 });
+    a.offer(Task { cost: 30, node: 3 });
+    a.offer(Task { cost: 20, node: 7 });
+    a.offer(Task { cost: 10, node: 5 });
+    a.offer(Task { cost: 99, node: 2 });
+    while let Some(Task { cost, node }) = a.pop() {
         println!(rt; "task {node} costs {cost}")?;
     }
     Ok(())
 }
 
 fn peaks(rt: HostRuntime) -> io::Result<()> {
-    let mut cells = [Cell::new(Peak {
-        height: 0,
-        place: 0,
-    }); 4];
+    let mut cells = [Cell::new(Peak::new(0, 0)); 4];
     let mut a = Agenda::new(&mut cells);
-    offer(
-        &mut a,
-        Peak {
-            height: 7,
-            place: 0,
-        },
-    );
-    offer(
-        &mut a,
-        Peak {
-            height: 9,
-            place: 1,
-        },
-    );
-    offer(
-        &mut a,
-        Peak {
-            height: 8,
-            place: 3,
-        },
-    );
-    offer(
-        &mut a,
-        Peak {
-            height: 12,
-            place: 0,
-        },
-    );
-    while let Some(p) = a.pop() {
-        let height = p.height;
-        let place = p.place;
+    a.offer(Peak::new(7, 0));
+    a.offer(Peak::new(9, 1));
+    a.offer(Peak::new(8, 3));
+    a.offer(Peak::new(12, 0));
+    while let Some(Peak { height: Reverse(height), place }) = a.pop() {
         println!(rt; "peak {place} is {height} high")?;
     }
     Ok(())

@@ -1,9 +1,13 @@
-use Rattle.std.proofs.Common.{set, ◌∙◌, arith}
+use Rattle.std.proofs.Common.{rules, ◌++◌, drop, replicate, ap, ◌∙◌}
+use Rattle.std.proofs.lemmas.List.{length-take-le}
 use Rattle.agenda.specs.Cells.{blank_cell}
-use Rattle.agenda.proofs.Parts.{blank_more}
+use Rattle.agenda.proofs.Parts.{all_same}
 use Rattle.agenda.proofs.cells.blank.Goals as goal
 
-pub loop-i-preserved : goal.loop-i-preserved
-loop-i-preserved g c =
-    let i = c.loop-i.i in
-    (λ k. set (c.loop-i.invariant k) i (c.new.ensures k)) ∙ blank_more c.args.cells.now i (blank_cell c.args.fill) (omega arith)
+pub returns : goal.returns
+returns g c =
+    let cells = c.args.cells.now in
+    let blank = blank_cell c.args.fill in
+    let told = c.fill_with.ensures in
+    let same = all_same _ _ blank (λ x q step. search rules) c.fill_with.new.self told.ran.0 told.ran.1 in
+    ap (λ xs. xs ++ drop c.args.n cells) (same ∙ ap (λ k. replicate k blank) (told.len ∙ length-take-le c.args.n cells c.requires))

@@ -1,23 +1,14 @@
--- `improve` meets its contract. Assumes nothing.
-use Rattle.std.proofs.Common.{◌≡◌, length, refl, arith}
-use Rattle.agenda.specs.Cells.{held, slots_of}
-use Rattle.agenda.proofs.Members.{improves, fewer, beyond}
+use Rattle.agenda.specs.Cells.{slots_of}
+use Rattle.agenda.specs.Orders.{before}
+use Rattle.agenda.specs.Tables.{listed}
+use Rattle.agenda.proofs.Members.{improves}
+use Rattle.agenda.proofs.Tables.{beyond_listed}
 use Rattle.agenda.proofs.agenda.Agenda.improve.Goals as goal
 
-pub returns : goal.returns
-returns g c =
-    let ix = g.E.Slotted.index in
-    let a = c.args.self.now in
-    let cells = a.cells.now in
-    let after = c.improve.new.cells in
-    let xs = held cells a.len in
-    let told = c.improve.ensures in
-    let sound = c.requires.sound in
-    let long : length after ≡ length cells = omega arith in
-    record {
-      sound = record { within = omega arith; heap = told.heap sound.heap; placed = told.placed };
-      room = long;
-      named = refl;
-      improves = improves ix g.E.Rank.lt c.args.e xs (held after a.len) (slots_of cells) c.improve.result sound.placed told.improved;
-      untouched = λ n below. beyond ix xs cells after n long (fewer ix xs (slots_of cells) n sound.placed below) below told.untouched;
-    }
+pub returns-clause-improves : goal.returns-clause-improves
+returns-clause-improves g c =
+    let t = c.args.self.now.table in
+    improves g.E.Slotted.index (before g.E.Ord.cmp) c.args.e (listed t) (listed c.improve.new.self) (slots_of t.cells.now) c.improve.result t.placed c.improve.ensures.improved
+
+pub returns-clause-untouched : goal.returns-clause-untouched
+returns-clause-untouched g c n = beyond_listed c.args.self.now.table c.improve.new.self n c.improve.ensures.stays.lies

@@ -1,23 +1,14 @@
--- `pop` meets its contract. Assumes nothing.
-use Rattle.std.proofs.Common.{◌≡◌, ◌-◌, length, refl, arith}
-use Rattle.agenda.specs.Cells.{held, slots_of}
-use Rattle.agenda.proofs.Members.{taken, fewer, beyond}
+use Rattle.agenda.specs.Orders.{before}
+use Rattle.agenda.specs.Tables.{listed}
+use Rattle.agenda.proofs.Members.{taken}
+use Rattle.agenda.proofs.Tables.{beyond_listed}
 use Rattle.agenda.proofs.agenda.Agenda.pop.Goals as goal
 
-pub returns : goal.returns
-returns g c =
-    let ix = g.E.Slotted.index in
+pub returns-clause-popped : goal.returns-clause-popped
+returns-clause-popped g c =
     let a = c.args.self.now in
-    let cells = a.cells.now in
-    let after = c.pop-first.new.cells in
-    let xs = held cells a.len in
-    let told = c.pop-first.ensures in
-    let long : length after ≡ length cells = omega arith in
-    record {
-      sound = record { within = omega arith; heap = told.heap c.requires.heap; placed = told.placed };
-      room = long;
-      named = refl;
-      len = omega arith;
-      popped = taken ix g.E.Rank.lt c.pop-first.result xs (held after (a.len - 1)) told.takes (told.first c.requires.heap) told.free;
-      untouched = λ n below. beyond ix xs cells after n long (fewer ix xs (slots_of cells) n c.requires.placed below) below told.untouched;
-    }
+    let told = c.pop.ensures in
+    taken g.E.Slotted.index (before g.E.Ord.cmp) c.pop.result (listed a.table) (listed c.pop.new.self) told.takes (told.first a.heap) told.free
+
+pub returns-clause-untouched : goal.returns-clause-untouched
+returns-clause-untouched g c n = beyond_listed c.args.self.now.table c.pop.new.self n c.pop.ensures.lies

@@ -1,0 +1,70 @@
+// What a table holds: by place, and by index.
+ghost use Rattle.std.specs.Prelude.{◌≡◌, ℕ, ◌+◌, ◌*◌, ◌<◌, ◌≤◌, ◌==◌, [], length, MatchOption, slice_index_or};
+ghost use Rattle.agenda.specs.Orders.{before, FirstChild};
+ghost use Rattle.agenda.specs.Places.{Absent, Present};
+ghost use Rattle.agenda.specs.Tables.{listed};
+
+use super::Table;
+use crate::cells::Cell;
+use crate::entry::Slotted;
+
+impl<'a, E: Slotted> Table<'a, E> {
+    // An empty table, whatever the cells hold.
+    pub fn new(cells: &'a mut [Cell<E>]) -> Table<'a, E>
+        ensures empty { listed result ≡ [] }
+        ensures cells { result.cells.now ≡ cells.old }
+        ensures named { result.cells.ghost_name ≡ cells.entry.ghost_name }
+    {
+        Table { cells, len: 0 }
+    }
+
+    pub fn is_empty(&self) -> bool
+        ensures { result ≡ (self.now.len == 0) }
+    {
+        self.len == 0
+    }
+
+    // The entry at i.
+    pub fn entry(&self, i: usize) -> E
+        requires { i < self.now.len }
+        ensures { (d : E) → result ≡ slice_index_or (listed self.now) i d }
+    {
+        self.cells[i].entry
+    }
+
+    // Whether the entry at i comes before that at j.
+    pub fn ahead(&self, i: usize, j: usize) -> bool
+        requires { (i < self.now.len) × (j < self.now.len) }
+        ensures { (d : E) → before E.cmp (slice_index_or (listed self.now) i d) (slice_index_or (listed self.now) j d) ≡ result }
+    {
+        self.entry(i) < self.entry(j)
+    }
+
+    // The child of `at` that comes first.
+    pub fn first_child(&self, at: usize) -> usize
+        requires { at * 2 + 1 < self.now.len }
+        ensures bound { (at * 2 + 1 ≤ result) × (result ≤ at * 2 + 2) × (result < self.now.len) }
+        ensures first { FirstChild (before E.cmp) (listed self.now) at result }
+    {
+        let len = self.len;
+        let left = at * 2 + 1;
+        if left + 1 < len && self.ahead(left + 1, left) {
+            left + 1
+        } else {
+            left
+        }
+    }
+
+    // Where the entry with the index k lies.
+    pub fn find(&self, k: usize) -> Option<usize>
+        requires { k < length self.now.cells.now }
+        ensures { MatchOption result (Absent E.index (listed self.now) k) (λ p. Present E.index (listed self.now) k p) }
+    {
+        let p = self.cells[k].slot;
+        if p < self.len && self.entry(p).slot_index() == k {
+            Some(p)
+        } else {
+            None
+        }
+    }
+}
