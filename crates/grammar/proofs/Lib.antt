@@ -1,4 +1,3 @@
-mod Arms
 pub mod Typed
 pub mod Tests
 pub mod Each
@@ -14,7 +13,6 @@ mod Stopping
 mod Meeting
 pub mod Formed
 mod Scanning
-mod Parts
 mod Steps
 mod Answering
 pub mod Decode

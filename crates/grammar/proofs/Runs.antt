@@ -1,10 +1,10 @@
 -- One command of a whole load, and that a longer allowance changes nothing: what a loop over the commands cites.
-use Rattle.std.proofs.Common.{◌≡◌, ℕ, zero, suc, ◌+◌, ◌<◌, ◌≤◌, true, false, cond, eqb, List, [], ◌∷◌, length, Ok, Err, Result, refl, ap, ◌∙◌, subst, arith}
+use Rattle.std.proofs.Common.{◌≡◌, ℕ, zero, suc, ◌+◌, ◌-◌, ◌<◌, ◌≤◌, true, false, cond, eqb, List, [], ◌∷◌, length, Ok, Err, Result, refl, ap, ◌∙◌, subst, arith}
 use Rattle.std.proofs.lemmas.Bool.{cond_both}
 use Rattle.grammar.specs.Commands.{Command, Kind, Category, Start, Production, Constituent, Token, Part, End, Unread, Next, one, two, seven, production_of, token_of, next_of, size, is_end}
 use Rattle.grammar.specs.Drafts.{Stage, Draft}
 use Rattle.grammar.specs.Stops.{Stop}
-use Rattle.grammar.specs.Loads.{Outcome, step, finish, after_step, unread, after_next, run}
+use Rattle.grammar.specs.Loads.{Outcome, step, finish, after_step, unread, after_next, run, load_of}
 
 -- a command that is read has as many bytes as its size
 abbrev Took : List ℕ → Next → Type 0
@@ -121,3 +121,15 @@ load_stop at s d p r c o e t =
 
 pub load_unread : (at : ℕ) (s : Stage) (d : Draft) (p : List ℕ) (u : Unread) → next_of p ≡ Err u → run (length p) at s d p ≡ Err (unread at u)
 load_unread at s d p u e = run_on at s d p ∙ ap (after_next (λ a t e q. run (length q) a t e q) at s d) e
+
+-- what is left after a command that is not the last gives what the whole gives
+module _ (pack rest more : List ℕ) (c : Command) (short : length rest ≤ length pack) (next : next_of rest ≡ Ok (c, more)) where
+  pub shorter_left : length more ≤ length pack
+  shorter_left = omega (arith, next_size rest more c next)
+
+  pub run_left : (s : Stage) (d : Draft) (x : Stage × Draft) → load_of pack ≡ run (length rest) (length pack - length rest) s d rest
+      → step (length pack - length rest) s d c ≡ Ok x → is_end c ≡ false
+      → load_of pack ≡ run (length more) (length pack - length more) x.0 x.1 more
+  run_left s d x whole met e =
+      let at : length pack - length rest + size c ≡ length pack - length more = omega (arith, next_size rest more c next) in
+      whole ∙ load_more (length pack - length rest) s d rest more c x next met e ∙ ap (λ n. run (length more) n x.0 x.1 more) at

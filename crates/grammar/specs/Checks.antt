@@ -6,7 +6,8 @@
 --   start_fits     8  the start category is known and of dimension 1
 --   operands_fit   5  its operands are as they must be
 --   Passes            it meets them all
-use Rattle.std.specs.Prelude.{◌≡◌, ℕ, zero, suc, ◌-◌, Bool, true, false, cond, ◌&&◌, ◌||◌, List, [], ◌∷◌, length, ◌==◌, nat_le, nat_lt, slice_index}
+use Rattle.std.specs.Prelude.{◌≡◌, ℕ, zero, suc, ◌-◌, Bool, true, false, cond, ◌&&◌, List, [], ◌∷◌, length, ◌==◌, nat_le, nat_lt, slice_index}
+use Rattle.std.specs.List.{list_all, list_any}
 use Rattle.grammar.specs.declared.symbol.Symbol.TheVariants as symbol
 use Rattle.grammar.specs.Limits.{most_categories, most_productions, most_symbols, most_dimension, most_arity, unused}
 use Rattle.grammar.specs.Grammars.{Symbol, ProductionModel, dimension}
@@ -19,13 +20,11 @@ has_some (x ∷ xs) = true
 
 -- the test f holds of each entry
 abbrev pub all : {X : Type 0} → (X → Bool) → List X → Bool
-all f [] = true
-all f (x ∷ xs) = f x && all f xs
+all f xs = list_all f xs
 
 -- the test f holds of some entry
 abbrev pub any : {X : Type 0} → (X → Bool) → List X → Bool
-any f [] = false
-any f (x ∷ xs) = f x || any f xs
+any f xs = list_any f xs
 
 -- the test f holds of each number below n
 abbrev pub all_below : ℕ → (ℕ → Bool) → Bool

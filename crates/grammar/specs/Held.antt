@@ -2,7 +2,7 @@
 --   production_model p   a held production as lists
 --   held_model           a grammar as lists, from the fields of a held one
 use Rattle.std.specs.Prelude.{ℕ, map}
-use Rattle.grammar.specs.declared.row.Row.{Row}
+use Rattle.arrayvec.specs.ArrayVec.{ArrayVec}
 use Rattle.grammar.specs.declared.production.Production.{Production}
 use Rattle.grammar.specs.Grammars.{ProductionModel, GrammarModel}
 use Rattle.grammar.specs.Entries.{entries}
@@ -15,7 +15,7 @@ production_model p = record {
   constituents = map entries (entries p.constituents);
 }
 
-abbrev pub held_model : ℕ → Row ℕ 32 → ℕ → Row Production 128 → GrammarModel
+abbrev pub held_model : ℕ → ArrayVec ℕ → ℕ → ArrayVec Production → GrammarModel
 held_model kind dimensions start productions = record {
   kind = kind;
   dimensions = entries dimensions;

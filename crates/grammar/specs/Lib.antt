@@ -3,6 +3,7 @@ pub mod Grammars
 pub mod Formed
 pub mod Encoding
 pub mod Stops
+pub mod Printed
 pub mod Commands
 pub mod Drafts
 pub mod Checks

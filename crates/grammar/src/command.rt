@@ -44,10 +44,7 @@ impl Command {
     pub fn is_end(&self) -> bool
         ensures { result ≡ is_end self.now }
     {
-        match self {
-            Command::End => true,
-            _ => false,
-        }
+        matches!(self, Command::End)
     }
 }
 
@@ -55,7 +52,7 @@ impl Command {
 fn wide_of(high: u8, low: u8) -> u16
     ensures { result ≡ wide high low }
 {
-    high as u16 * 256 + low as u16
+    u16::from_be_bytes([high, low])
 }
 
 // The first command of the pack with what is behind it, or why there is none.

@@ -4,15 +4,15 @@ ghost use Rattle.grammar.specs.Held.{held_model};
 ghost use Rattle.grammar.specs.Tested.{formed};
 
 use crate::production::Production;
-use crate::row::Row;
+use arrayvec::ArrayVec;
 
 mod calls;
 
 #[derive(Drop)]
 pub struct Grammar {
     pub(crate) kind: u8,
-    pub(crate) dimensions: Row<u8, 32>,
+    pub(crate) dimensions: ArrayVec<u8, 32>,
     pub(crate) start: u8,
-    pub(crate) productions: Row<Production, 128>,
+    pub(crate) productions: ArrayVec<Production, 128>,
     ghost well_formed: { formed (held_model kind dimensions start productions) ≡ true },
 }

@@ -6,7 +6,6 @@ mod filling;
 pub mod held;
 mod loader;
 pub mod production;
-pub mod row;
 pub mod stage;
 pub mod stops;
 pub mod symbol;
@@ -16,8 +15,7 @@ mod trees;
 
 pub use command::{Command, Unread, next_command};
 pub use held::Grammar;
-pub use production::Production;
-pub use row::Row;
+pub use production::{Constituent, Production};
 pub use stops::{Layer, PackStop};
 pub use symbol::Symbol;
 pub use taking::load;

@@ -1,12 +1,11 @@
 // What a load has read so far.
-ghost use Rattle.std.specs.Prelude.{◌≡◌, ℕ, ◌<◌, ◌≤◌, true, slice_index};
+ghost use Rattle.std.specs.Prelude.{◌≡◌, ℕ, ◌<◌, ◌≤◌, true, length, slice_index};
 ghost use Rattle.grammar.specs.Checks.{is_open};
 ghost use Rattle.grammar.specs.Entries.{entries};
 
-use crate::production::Production;
-use crate::row::Row;
+use crate::production::{Constituent, Production};
 use crate::stage::Stage;
-use crate::symbol::Symbol;
+use arrayvec::ArrayVec;
 
 mod calls;
 mod opening;
@@ -17,20 +16,20 @@ pub(crate) struct OpenProduction {
     offset: usize,
     category: u8,
     weight: u16,
-    arguments: Row<u8, 3>,
-    closed: Row<Row<Symbol, 8>, 2>,
-    current: Row<Symbol, 8>,
-    ghost few: { closed.count ≤ 1 },
+    arguments: ArrayVec<u8, 3>,
+    closed: ArrayVec<Constituent, 2>,
+    current: Constituent,
+    ghost few: { length (entries closed) ≤ 1 },
 }
 
 #[derive(Drop)]
 pub(crate) struct Loader {
     stage: Stage,
     kind: u8,
-    dimensions: Row<u8, 32>,
+    dimensions: ArrayVec<u8, 32>,
     start: u8,
-    productions: Row<Production, 128>,
+    productions: ArrayVec<Production, 128>,
     opened: OpenProduction,
     ghost low: { (c : ℕ) → slice_index (entries dimensions) c ≤ 2 },
-    ghost room: { is_open stage ≡ true → productions.count < 128 },
+    ghost room: { is_open stage ≡ true → length (entries productions) < 128 },
 }

@@ -13,16 +13,20 @@ use crate::held::Grammar;
 use crate::loader::Loader;
 use crate::stops::PackStop;
 
-fn stop_of(reason: Unread, at: usize) -> PackStop
-    ensures { told result ≡ unread at reason }
-{
-    match reason {
-        Unread::Incomplete => PackStop::Incomplete { at },
-        Unread::Unknown => PackStop::Unknown { at },
+impl Unread {
+    // The stop that it is at this offset.
+    fn stop(self, at: usize) -> PackStop
+        ensures { told result ≡ unread at self }
+    {
+        match self {
+            Unread::Incomplete => PackStop::Incomplete { at },
+            Unread::Unknown => PackStop::Unknown { at },
+        }
     }
 }
 
 // What the whole pack leads to.
+#[tactic(auto, using(crate::proofs::Typed::typed_bytes))]
 fn take_all(pack: &[u8]) -> Result<Loader, PackStop>
     ensures value { MatchResult result (λ l. load_of pack.now ≡ Ok (model_of (draft_of l))) (λ e. load_of pack.now ≡ Err (told e)) }
     ensures bytes { Bytes pack.now }
@@ -31,32 +35,26 @@ fn take_all(pack: &[u8]) -> Result<Loader, PackStop>
     let mut rest = pack;
     loop {
         let at = pack.len() - rest.len();
-        match next_command(rest) {
-            Ok((command, more)) => {
-                loader.take(at, command)?;
-                if command.is_end() {
-                    if more.is_empty() {
-                        return Ok(loader);
-                    }
-                    return Err(PackStop::Trailing {
-                        at: pack.len() - more.len(),
-                    });
-                }
-                rest = more;
+        let (command, more) = next_command(rest).map_err(|reason| reason.stop(at))?;
+        loader.take(at, command)?;
+        if command.is_end() {
+            if more.is_empty() {
+                return Ok(loader);
             }
-            Err(reason) => return Err(stop_of(reason, at)),
+            return Err(PackStop::Trailing {
+                at: pack.len() - more.len(),
+            });
         }
+        rest = more;
     }
 }
 
 // The grammar that the pack is the encoding of, or the one stop that it meets.
+#[tactic(auto, using(crate::proofs::Answering::packing))]
 pub fn load(pack: &[u8]) -> Result<Grammar, PackStop>
     ensures value { MatchResult result (λ g. load_of pack.now ≡ Ok (model g)) (λ e. load_of pack.now ≡ Err (told e)) }
     ensures law { Loaded pack.now result }
     ensures packing { Packing }
 {
-    match take_all(pack) {
-        Ok(loader) => Ok(loader.finish()),
-        Err(stop) => Err(stop),
-    }
+    Ok(take_all(pack)?.finish())
 }

@@ -20,7 +20,7 @@ impl Grammar {
     pub fn dimensions(&self) -> &[u8]
         ensures { result.now ≡ (model self.now).dimensions }
     {
-        self.dimensions.items()
+        self.dimensions.as_slice()
     }
 
     pub fn start(&self) -> u8
@@ -32,6 +32,6 @@ impl Grammar {
     pub fn productions(&self) -> &[Production]
         ensures { map production_model result.now ≡ (model self.now).productions }
     {
-        self.productions.items()
+        self.productions.as_slice()
     }
 }

@@ -17,31 +17,23 @@ use crate::held::Grammar;
 use crate::loader::opening::production_fits;
 use crate::loader::{Loader, OpenProduction};
 use crate::production::Production;
-use crate::row::Row;
 use crate::stage::Stage;
 use crate::stops::PackStop;
 use crate::symbol::Symbol;
-
-const MOST_CATEGORIES: usize = 32;
-
-const MOST_PRODUCTIONS: usize = 128;
-
-const MOST_SYMBOLS: usize = 8;
+use arrayvec::ArrayVec;
 
 impl Loader {
     pub(crate) fn new() -> Loader
         ensures stage { result.stage ≡ Fresh }
         ensures draft { draft_of result ≡ blank }
     {
-        let opened = OpenProduction::new(0, 0, 0, Row::new(0));
-        let none = opened.production();
         Loader {
             stage: Stage::Fresh,
             kind: 0,
-            dimensions: Row::new(0),
+            dimensions: ArrayVec::new(),
             start: 0,
-            productions: Row::new(none),
-            opened,
+            productions: ArrayVec::new(),
+            opened: OpenProduction::new(0, 0, 0, ArrayVec::new()),
         }
     }
 
@@ -50,14 +42,14 @@ impl Loader {
         ensures value { result ≡ dimension (draft_of self.now).dimensions self.now.opened.category }
         ensures most { result ≤ 2 }
     {
-        dimension_of(self.dimensions.items(), self.opened.category)
+        dimension_of(self.dimensions.as_slice(), self.opened.category)
     }
 
     fn add_category(&mut self, at: usize, dimension: u8) -> Result<(), PackStop>
         requires { self.old.stage ≡ Categories }
         ensures { Stepped at self.old (Category dimension) result self.new }
     {
-        if self.dimensions.len() >= MOST_CATEGORIES {
+        if self.dimensions.is_full() {
             return Err(PackStop::TooMany { at });
         }
         if dimension == 0 || 2 < dimension {
@@ -71,7 +63,7 @@ impl Loader {
     fn late_category(&self, at: usize) -> PackStop
         ensures { result ≡ (if nat_lt (length (draft_of self.now).dimensions) most_categories then Misplaced at else TooMany at) }
     {
-        if self.dimensions.len() >= MOST_CATEGORIES {
+        if self.dimensions.is_full() {
             PackStop::TooMany { at }
         } else {
             PackStop::Misplaced { at }
@@ -82,10 +74,10 @@ impl Loader {
         requires { self.old.stage ≡ Categories }
         ensures { Stepped at self.old (Start category) result self.new }
     {
-        if self.dimensions.len() == 0 {
+        if self.dimensions.is_empty() {
             return Err(PackStop::Misplaced { at });
         }
-        if dimension_of(self.dimensions.items(), category) != 1 {
+        if dimension_of(self.dimensions.as_slice(), category) != 1 {
             return Err(PackStop::BadStart { at });
         }
         self.start = category;
@@ -98,7 +90,7 @@ impl Loader {
         ensures { result ≡ fills_all (draft_of self.now).dimensions (production_model production.now) }
     {
         let constituents = production.constituents();
-        let dimension = dimension_of(self.dimensions.items(), production.category());
+        let dimension = dimension_of(self.dimensions.as_slice(), production.category());
         dimension as usize <= constituents.len() && each_has_some(constituents)
     }
 
@@ -113,7 +105,7 @@ impl Loader {
             return Err(PackStop::Unfilled { production: offset });
         }
         if !names_each(
-            self.dimensions.items(),
+            self.dimensions.as_slice(),
             production.arguments(),
             production.constituents(),
         ) {
@@ -135,13 +127,14 @@ impl Loader {
         requires { self.old.stage ≡ Between }
         ensures { Stepped at self.old (Opens category weight arity (slice_index arguments 0) (slice_index arguments 1) (slice_index arguments 2)) result self.new }
     {
-        if self.productions.len() >= MOST_PRODUCTIONS {
+        if self.productions.is_full() {
             return Err(PackStop::TooMany { at });
         }
         if !production_fits(self.dimensions.len(), category, weight, arity, arguments) {
             return Err(PackStop::BadOperand { at });
         }
-        let arguments = Row::front(arguments, arity as usize);
+        let mut arguments = ArrayVec::from(arguments);
+        arguments.truncate(arity as usize);
         self.opened = OpenProduction::new(at, category, weight, arguments);
         self.stage = Stage::Head;
         Ok(())
@@ -166,7 +159,7 @@ impl Loader {
         if self.opened.closed.len() + 1 >= self.open_dimension() as usize {
             return Err(PackStop::TooMany { at });
         }
-        if self.opened.current.len() == 0 {
+        if self.opened.current.is_empty() {
             return Err(PackStop::Misplaced { at });
         }
         self.opened.begin_next();
@@ -177,7 +170,7 @@ impl Loader {
         requires { self.old.stage ≡ Body }
         ensures { Stepped at self.old (Token token) result self.new }
     {
-        if self.opened.current.len() >= MOST_SYMBOLS {
+        if self.opened.current.is_full() {
             return Err(PackStop::TooMany { at });
         }
         self.opened.add_symbol(Symbol::Token(token));
@@ -188,10 +181,10 @@ impl Loader {
         requires { self.old.stage ≡ Body }
         ensures { Stepped at self.old (Part argument constituent) result self.new }
     {
-        if self.opened.current.len() >= MOST_SYMBOLS {
+        if self.opened.current.is_full() {
             return Err(PackStop::TooMany { at });
         }
-        let dimensions = self.dimensions.items();
+        let dimensions = self.dimensions.as_slice();
         if !self.opened.part_fits(dimensions, argument, constituent) {
             return Err(PackStop::BadOperand { at });
         }

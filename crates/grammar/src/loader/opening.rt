@@ -8,12 +8,9 @@ ghost use Rattle.grammar.specs.Loaders.{opened_of};
 
 use crate::filling::dimension_of;
 use crate::loader::OpenProduction;
-use crate::production::Production;
-use crate::row::Row;
+use crate::production::{Constituent, Production};
 use crate::symbol::Symbol;
-
-// What an array of symbols is filled with; it is never read.
-const FILL: Symbol = Symbol::Token(0);
+use arrayvec::ArrayVec;
 
 // Argument number i, from 0, is a known category, or 255 where the arity leaves it unused.
 fn argument_fits(known: usize, arity: u8, i: u8, argument: u8) -> bool
@@ -49,7 +46,7 @@ impl OpenProduction {
         offset: usize,
         category: u8,
         weight: u16,
-        arguments: Row<u8, 3>,
+        arguments: ArrayVec<u8, 3>,
     ) -> OpenProduction
         ensures { opened_of result ≡ record { offset = offset; category = category; weight = weight; arguments = entries arguments; closed = []; current = [] } }
     {
@@ -58,8 +55,8 @@ impl OpenProduction {
             category,
             weight,
             arguments,
-            closed: Row::new(Row::new(FILL)),
-            current: Row::new(FILL),
+            closed: ArrayVec::new(),
+            current: Constituent::new(),
         }
     }
 
@@ -67,12 +64,12 @@ impl OpenProduction {
     pub(crate) fn production(&self) -> Production
         ensures { production_model result ≡ open_production Body (opened_of self.now) }
     {
-        let mut constituents = self.closed;
-        constituents.push(self.current);
+        let mut constituents = self.closed.clone().unwrap();
+        constituents.push(self.current.clone().unwrap());
         Production {
             category: self.category,
             weight: self.weight,
-            arguments: self.arguments,
+            arguments: self.arguments.clone().unwrap(),
             constituents,
         }
     }
@@ -81,21 +78,21 @@ impl OpenProduction {
     pub(crate) fn begin_first(&mut self)
         ensures { opened_of self.new ≡ beginning (opened_of self.old) [] }
     {
-        self.closed = Row::new(Row::new(FILL));
-        self.current = Row::new(FILL);
+        self.closed.clear();
+        self.current.clear();
     }
 
     // Closes the current constituent and opens the next.
     pub(crate) fn begin_next(&mut self)
-        requires { self.old.closed.count < 1 }
+        requires { length (entries self.old.closed) < 1 }
         ensures { opened_of self.new ≡ beginning (opened_of self.old) (constituents_so_far Body (opened_of self.old)) }
     {
-        self.closed.push(self.current);
-        self.current = Row::new(FILL);
+        let current = self.current.take();
+        self.closed.push(current);
     }
 
     pub(crate) fn add_symbol(&mut self, symbol: Symbol)
-        requires { self.old.current.count < 8 }
+        requires { length (entries self.old.current) < 8 }
         ensures { opened_of self.new ≡ one_more (opened_of self.old) symbol }
     {
         self.current.push(symbol);
@@ -109,7 +106,7 @@ impl OpenProduction {
             return false;
         }
         match self.arguments.get(argument as usize - 1) {
-            Some(category) => constituent <= dimension_of(dimensions, category),
+            Some(&category) => constituent <= dimension_of(dimensions, category),
             None => false,
         }
     }

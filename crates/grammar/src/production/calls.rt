@@ -3,9 +3,7 @@ ghost use Rattle.std.specs.Prelude.{◌≡◌, map};
 ghost use Rattle.grammar.specs.Entries.{entries};
 ghost use Rattle.grammar.specs.Held.{production_model};
 
-use crate::production::Production;
-use crate::row::Row;
-use crate::symbol::Symbol;
+use crate::production::{Constituent, Production};
 
 impl Production {
     pub fn category(&self) -> u8
@@ -24,13 +22,13 @@ impl Production {
     pub fn arguments(&self) -> &[u8]
         ensures { result.now ≡ (production_model self.now).arguments }
     {
-        self.arguments.items()
+        self.arguments.as_slice()
     }
 
-    // One row of symbols for each constituent.
-    pub fn constituents(&self) -> &[Row<Symbol, 8>]
+    // The symbols of each constituent.
+    pub fn constituents(&self) -> &[Constituent]
         ensures { map entries result.now ≡ (production_model self.now).constituents }
     {
-        self.constituents.items()
+        self.constituents.as_slice()
     }
 }

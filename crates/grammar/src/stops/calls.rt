@@ -1,5 +1,6 @@
 // What a stop tells.
-ghost use Rattle.std.specs.Prelude.{◌≡◌};
+ghost use Rattle.std.specs.Prelude.{◌≡◌, Some};
+ghost use Rattle.grammar.specs.Printed.{layer_text, reason_text, stop_text};
 ghost use Rattle.grammar.specs.Stops.{told};
 
 use crate::stops::{Layer, PackStop};
@@ -46,13 +47,12 @@ impl PackStop {
             _ => Layer::Grammar,
         }
     }
-}
 
-impl fmt::Display for PackStop {
-    fn fmt<W: fmt::Write>(&self, f: &mut fmt::Formatter<W>) -> fmt::Result {
-        let number = self.number();
-        let figure = self.figure();
-        let what = match self {
+    // What it is about.
+    fn reason(&self) -> &'static str
+        ensures { result.now ≡ reason_text self.now }
+    {
+        match self {
             PackStop::Incomplete { .. } => "the pack ends before its command at byte",
             PackStop::Unknown { .. } => "no command begins with the byte at",
             PackStop::Misplaced { .. } => "a command is not allowed at this stage, at byte",
@@ -64,7 +64,28 @@ impl fmt::Display for PackStop {
                 "an argument's constituent is never named, in the production at byte",
             PackStop::BadStart { .. } => "the start category is unknown or of dimension 2, at byte",
             PackStop::Trailing { .. } => "bytes follow the end, from byte",
-        };
-        write!(f, "stop {number}: {what} {figure}")
+        }
+    }
+}
+
+impl fmt::Display for Layer {
+    ghost output = { λ l. Some (layer_text l) };
+
+    fn fmt<W: fmt::Write>(&self, f: &mut fmt::Formatter<W>) -> fmt::Result {
+        match self {
+            Layer::Reader => write!(f, "reader"),
+            Layer::Grammar => write!(f, "grammar"),
+        }
+    }
+}
+
+impl fmt::Display for PackStop {
+    ghost output = { λ s. Some (stop_text s) };
+
+    fn fmt<W: fmt::Write>(&self, f: &mut fmt::Formatter<W>) -> fmt::Result {
+        let number = self.number();
+        let reason = self.reason();
+        let figure = self.figure();
+        write!(f, "stop {number}: {reason} {figure}")
     }
 }

@@ -1,19 +1,14 @@
-use Rattle.std.proofs.Common.{◌≡◌, ℕ, suc, ◌+◌, Bool, map, sym, ap, ◌∙◌, arith}
+use Rattle.std.proofs.Common.{◌≡◌, suc, ◌+◌, rules, tests, map, ap, ◌∙◌, arith}
+use Rattle.std.proofs.lemmas.Iterator.{YieldsList-from_range}
+use Rattle.std.proofs.lemmas.Iterator.Search.{all_from_yields_List}
 use Rattle.grammar.specs.Entries.{entries}
 use Rattle.grammar.specs.Checks.{named}
-use Rattle.grammar.proofs.Scanning.{below_more, below_fails}
+use Rattle.grammar.proofs.Scanning.{all_range}
 use Rattle.grammar.proofs.filling.names_argument.Goals as goal
 
-pub returns-then-not-names : goal.returns-then-not-names
-returns-then-not-names c =
-    let f : ℕ → Bool = λ j. named c.args.k (suc j) (map entries c.args.constituents.now) in
-    let next : suc c.loop-j.j ≡ c.loop-j.j + 1 = omega arith in
-    sym (below_fails c.args.dimension f c.loop-j.j c.loop-j-test.true
-    (ap (λ n. named c.args.k n (map entries c.args.constituents.now)) next ∙ sym c.if-not-names.ensures))
-
-pub loop-j-preserved : goal.loop-j-preserved
-loop-j-preserved c =
-    let f : ℕ → Bool = λ j. named c.args.k (suc j) (map entries c.args.constituents.now) in
-    let next : suc c.loop-j.j ≡ c.loop-j.j + 1 = omega arith in
-    below_more f c.loop-j.j c.loop-j.invariant
-    (ap (λ n. named c.args.k n (map entries c.args.constituents.now)) next ∙ sym c.if-not-names.ensures)
+pub returns : goal.returns
+returns c =
+    let cs = map entries c.args.constituents.now in
+    let k = c.args.k in
+    all_from_yields_List (λ j. named k (j + 1) cs) _ _ c.all.result c.all.ensures.ran (YieldsList-from_range 0 c.args.dimension c.args.dimension (cc) (omega arith)) (λ x b q h. search (rules, tests))
+    ∙ all_range (λ j. named k (j + 1) cs) (λ j. named k (suc j) cs) 0 c.args.dimension (λ j. let e : 0 + j + 1 ≡ suc j = omega arith in ap (λ n. named k n cs) e)

@@ -1,23 +1,24 @@
 use Rattle.std.proofs.Common.{Ok, Err, sym, ap, ◌∙◌}
+use Rattle.std.proofs.lemmas.Result.{err_from_is_err_and}
 use Rattle.grammar.specs.Drafts.{model_of}
 use Rattle.grammar.specs.Loaders.{draft_of}
 use Rattle.grammar.specs.Loads.{Outcome}
 use Rattle.grammar.proofs.Loading.{loads_are_packs}
 use Rattle.grammar.proofs.Formed.{is_formed}
-use Rattle.grammar.proofs.Answering.{loaded, packing}
+use Rattle.grammar.proofs.Answering.{loaded}
 use Rattle.grammar.proofs.taking.load.Goals as goal
 
 pub finish-requires : goal.finish-requires
 finish-requires c =
-    let m = model_of (draft_of c.in-Ok.loader) in
-    is_formed m (loads_are_packs c.args.pack.now m c.take_all.ensures.bytes c.in-Ok.ensures.value).0
+    let m = model_of (draft_of c.in_ok-take_all.field-0) in
+    is_formed m (loads_are_packs c.args.pack.now m c.in_ok-take_all.ensures.bytes c.in_ok-take_all.ensures.value).0
 
-pub returns-in-Ok : goal.returns-in-Ok
-returns-in-Ok c =
-    let e = c.in-Ok.ensures.value ∙ ap {B = Outcome} (λ m. Ok m) (sym c.finish.ensures) in
-    record { value = e; law = loaded c.args.pack.now c.take_all.ensures.bytes (Ok c.finish.result) e; packing = packing }
+pub returns-clause-law : goal.returns-clause-law
+returns-clause-law c =
+    loaded c.args.pack.now c.in_ok-take_all.ensures.bytes (Ok c.finish.result)
+    (c.in_ok-take_all.ensures.value ∙ ap {B = Outcome} (λ m. Ok m) (sym c.finish.ensures))
 
-pub returns-in-Err : goal.returns-in-Err
-returns-in-Err c =
-    let e = c.in-Err.ensures.value in
-    record { value = e; law = loaded c.args.pack.now c.take_all.ensures.bytes (Err c.in-Err.stop) e; packing = packing }
+pub returns-in_err-take_all-clause-law : goal.returns-in_err-take_all-clause-law
+returns-in_err-take_all-clause-law c =
+    let p = err_from_is_err_and c.from_residual.result c.from_residual.ensures.1 in
+    rw (p.1, p.2) (loaded c.args.pack.now c.in_err-take_all.ensures.bytes (Err c.in_err-take_all.field-0.0) c.in_err-take_all.ensures.value)
