@@ -5,7 +5,7 @@ use Rattle.grammar.specs.declared.symbol.Symbol.TheVariants as symbol
 use Rattle.grammar.specs.Grammars.{Symbol, ProductionModel, GrammarModel, dimension}
 use Rattle.grammar.specs.Formed.{Each, OneOrTwo, SymbolFormed, ConstituentFormed, ProductionFormed, WellFormed}
 use Rattle.grammar.specs.Encoding.{categories_bytes, symbols_bytes, constituents_bytes, production_bytes, productions_bytes, encode}
-use Rattle.grammar.specs.Commands.{Command, Kind, Category, Start, Production, Constituent, Token, Part, End, size, is_end}
+use Rattle.grammar.specs.Commands.{Command, Kind, Category, Start, Production, Constituent, Token, Part, End, operands, size, is_end}
 use Rattle.grammar.specs.Drafts.{Stage, Fresh, Categories, Between, Head, Body, Opened, Draft, none_opened, blank, productions_so_far, apply, model_of}
 use Rattle.grammar.specs.Checks.{has_some, all, filled, names_all, all_named, in_limits, past_start, allowed, start_fits, operands_fit, production_fits}
 pub use Rattle.grammar.specs.Checks.{Passes}
@@ -142,11 +142,11 @@ module _ (k : ℕ) (dimensions : List ℕ) (st : ℕ) where
 
   module _ (g : GrammarModel) (s : Stage) (rs : List ProductionModel) (o : Opened) (ready : Ready s (made rs o))
       (room : length (productions_so_far s (made rs o)) < 128) (res w : ℕ) (known : res < length dimensions) (heavy : 1 ≤ w) (tail : List ℕ) where
-    send : (n x y z : ℕ) → production_fits (length dimensions) res w n x y z ≡ true
-        → ((at : ℕ) → Accepts Head (apply at s (made rs o) (Production res w n x y z)).1 tail g)
-        → Accepts s (made rs o) (bytes (Production res w n x y z) ++ tail) g
+    send : (n x y z : ℕ) → production_fits (length dimensions) (operands res w n x y z) ≡ true
+        → ((at : ℕ) → Accepts Head (apply at s (made rs o) (Production (operands res w n x y z))).1 tail g)
+        → Accepts s (made rs o) (bytes (Production (operands res w n x y z)) ++ tail) g
     send n x y z f a =
-        advance s (made rs o) (Production res w n x y z) tail g
+        advance s (made rs o) (Production (operands res w n x y z)) tail g
         (record {
           p6 = ready.full;
           p7 = ready.naming;

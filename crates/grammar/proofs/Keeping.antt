@@ -6,7 +6,7 @@ use Rattle.grammar.specs.declared.symbol.Symbol.TheVariants as symbol
 use Rattle.grammar.specs.Grammars.{Symbol, ProductionModel, dimension}
 use Rattle.grammar.specs.Formed.{Each, OneOrTwo, SymbolFormed, ConstituentFormed, ProductionFormed, WellFormed}
 use Rattle.grammar.specs.Encoding.{categories_bytes, symbol_bytes, symbols_bytes, constituents_bytes, arguments_bytes, production_bytes, productions_bytes, encode}
-use Rattle.grammar.specs.Commands.{Command, Kind, Category, Start, Production, Constituent, Token, Part, End, is_end}
+use Rattle.grammar.specs.Commands.{Command, Kind, Category, Start, Production, Constituent, Token, Part, End, operands, is_end}
 use Rattle.grammar.specs.Drafts.{Stage, Fresh, Categories, Between, Head, Body, Opened, Draft, constituents_so_far, open_production, productions_so_far, apply, model_of}
 use Rattle.grammar.specs.Checks.{has_some, all, complete, filled, names_all, all_named, past_start, argument_fits}
 use Rattle.grammar.proofs.Each.{each_push, each_last, length_push}
@@ -244,8 +244,8 @@ move_start at Between d x p h = absurd (false≢true p.p3)
 move_start at Head d x p h = absurd (false≢true p.p3)
 move_start at Body d x p h = absurd (false≢true p.p3)
 
-move_production : (at : ℕ) (s : Stage) (d : Draft) (c w n x y z : ℕ) → Passes s d (Production c w n x y z) → w < 65536 → Sound s d
-    → Moved at s d (Production c w n x y z)
+move_production : (at : ℕ) (s : Stage) (d : Draft) (c w n x y z : ℕ) → Passes s d (Production (operands c w n x y z)) → w < 65536 → Sound s d
+    → Moved at s d (Production (operands c w n x y z))
 move_production at s d c w n x y z p f h =
     let t = shut s d p.p3 p.p6 p.p7 h in
     let a = and_both (ltb c (length d.dimensions)) _ p.p5 in
@@ -370,7 +370,7 @@ pub moved : (at : ℕ) (s : Stage) (d : Draft) (c : Command) → is_end c ≡ fa
 moved at s d (Kind k) e p f h = move_kind at s d k p f h
 moved at s d (Category x) e p f h = move_category at s d x p h
 moved at s d (Start x) e p f h = move_start at s d x p h
-moved at s d (Production c w n x y z) e p f h = move_production at s d c w n x y z p f h
+moved at s d (Production o) e p f h = move_production at s d o.category o.weight o.arity o.first o.second o.third p f h
 moved at s d Constituent e p f h = move_constituent at s d p h
 moved at s d (Token t) e p f h = move_token at s d t p f h
 moved at s d (Part k l) e p f h = move_part at s d k l p h

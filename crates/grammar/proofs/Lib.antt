@@ -13,7 +13,6 @@ mod Stopping
 mod Meeting
 pub mod Formed
 mod Scanning
-mod Steps
 mod Answering
 pub mod Decode
 pub mod Yields

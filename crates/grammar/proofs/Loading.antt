@@ -53,7 +53,7 @@ passed_good : (p : List ℕ) (go : ℕ → Stage → Draft → List ℕ → Outc
 passed_good p go ih at s d (Kind k) rest f b n e h = onward_good p go ih at s d (Kind k) rest refl h f b n e
 passed_good p go ih at s d (Category x) rest f b n e h = onward_good p go ih at s d (Category x) rest refl h f b n e
 passed_good p go ih at s d (Start x) rest f b n e h = onward_good p go ih at s d (Start x) rest refl h f b n e
-passed_good p go ih at s d (Production c w a x y z) rest f b n e h = onward_good p go ih at s d (Production c w a x y z) rest refl h f b n e
+passed_good p go ih at s d (Production o) rest f b n e h = onward_good p go ih at s d (Production o) rest refl h f b n e
 passed_good p go ih at s d Constituent rest f b n e h = onward_good p go ih at s d Constituent rest refl h f b n e
 passed_good p go ih at s d (Token t) rest f b n e h = onward_good p go ih at s d (Token t) rest refl h f b n e
 passed_good p go ih at s d (Part k l) rest f b n e h = onward_good p go ih at s d (Part k l) rest refl h f b n e

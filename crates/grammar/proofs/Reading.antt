@@ -1,7 +1,7 @@
 -- A command and its bytes.
 use Rattle.std.proofs.Common.{◌≡◌, ℕ, ◌+◌, ◌*◌, ◌/◌, ◌%◌, ◌<◌, eqb, List, [], ◌∷◌, ◌++◌, length, Ok, Err, sym, refl, ap, ◌∙◌, ap₂, arith}
 use Rattle.std.proofs.lemmas.Bool.{cond_both, eqb-true}
-use Rattle.grammar.specs.Commands.{Command, Kind, Category, Start, Production, Constituent, Token, Part, End, Next, wide, one, two, seven, production_of, token_of, next_of}
+use Rattle.grammar.specs.Commands.{Command, Kind, Category, Start, Production, Constituent, Token, Part, End, operands, Next, wide, one, two, seven, production_of, token_of, next_of}
 pub use Rattle.grammar.specs.Commands.{bytes}
 use Rattle.grammar.specs.Commands.{Bytes}
 
@@ -9,7 +9,7 @@ pub shorter : (c : Command) (rest : List ℕ) → length rest < length (bytes c 
 shorter (Kind k) rest = omega arith
 shorter (Category x) rest = omega arith
 shorter (Start x) rest = omega arith
-shorter (Production c w n x y z) rest = omega arith
+shorter (Production o) rest = omega arith
 shorter Constituent rest = omega arith
 shorter (Token t) rest = omega arith
 shorter (Part k l) rest = omega arith
@@ -22,7 +22,7 @@ pub read_back : (c : Command) (rest : List ℕ) → next_of (bytes c ++ rest) �
 read_back (Kind k) rest = refl
 read_back (Category x) rest = refl
 read_back (Start x) rest = refl
-read_back (Production c w n x y z) rest = ap {B = Next} (λ v. Ok (Production c v n x y z, rest)) (two_bytes w)
+read_back (Production o) rest = ap {B = Next} (λ v. Ok (Production (operands o.category v o.arity o.first o.second o.third), rest)) (two_bytes o.weight)
 read_back Constituent rest = refl
 read_back (Token t) rest = ap {B = Next} (λ v. Ok (Token v, rest)) (two_bytes t)
 read_back (Part k l) rest = refl
@@ -33,7 +33,7 @@ abbrev pub Fits : Command → Type 0
 Fits (Kind k) = k < 256
 Fits (Category x) = Unit {0}
 Fits (Start x) = Unit {0}
-Fits (Production c w n x y z) = w < 65536
+Fits (Production o) = o.weight < 65536
 Fits Constituent = Unit {0}
 Fits (Token t) = t < 65536
 Fits (Part k l) = Unit {0}

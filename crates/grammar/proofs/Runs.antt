@@ -50,7 +50,7 @@ some_size : (c : Command) → 1 ≤ size c
 some_size (Kind k) = omega arith
 some_size (Category x) = omega arith
 some_size (Start x) = omega arith
-some_size (Production c w n x y z) = omega arith
+some_size (Production o) = omega arith
 some_size Constituent = omega arith
 some_size (Token t) = omega arith
 some_size (Part k l) = omega arith

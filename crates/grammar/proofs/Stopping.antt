@@ -18,7 +18,7 @@ pub size_is : (c : Command) → length (bytes c) ≡ size c
 size_is (Kind k) = refl
 size_is (Category x) = refl
 size_is (Start x) = refl
-size_is (Production c w n x y z) = refl
+size_is (Production o) = refl
 size_is Constituent = refl
 size_is (Token t) = refl
 size_is (Part k l) = refl
@@ -65,7 +65,7 @@ passed_why : (p : List ℕ) (n : ℕ) → Runs p n → (w rest : List ℕ) (s : 
 passed_why p n ih w rest s d (Kind k) l b r e h = onward_why p n ih w rest s d (Kind k) l b r e h refl
 passed_why p n ih w rest s d (Category x) l b r e h = onward_why p n ih w rest s d (Category x) l b r e h refl
 passed_why p n ih w rest s d (Start x) l b r e h = onward_why p n ih w rest s d (Start x) l b r e h refl
-passed_why p n ih w rest s d (Production c v a x y z) l b r e h = onward_why p n ih w rest s d (Production c v a x y z) l b r e h refl
+passed_why p n ih w rest s d (Production o) l b r e h = onward_why p n ih w rest s d (Production o) l b r e h refl
 passed_why p n ih w rest s d Constituent l b r e h = onward_why p n ih w rest s d Constituent l b r e h refl
 passed_why p n ih w rest s d (Token t) l b r e h = onward_why p n ih w rest s d (Token t) l b r e h refl
 passed_why p n ih w rest s d (Part k m) l b r e h = onward_why p n ih w rest s d (Part k m) l b r e h refl

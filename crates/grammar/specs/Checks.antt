@@ -11,7 +11,7 @@ use Rattle.std.specs.List.{list_all, list_any}
 use Rattle.grammar.specs.declared.symbol.Symbol.TheVariants as symbol
 use Rattle.grammar.specs.Limits.{most_categories, most_productions, most_symbols, most_dimension, most_arity, unused}
 use Rattle.grammar.specs.Grammars.{Symbol, ProductionModel, dimension}
-use Rattle.grammar.specs.Commands.{Command, Kind, Category, Start, Production, Constituent, Token, Part, End, closes}
+use Rattle.grammar.specs.Commands.{Command, Operands, Kind, Category, Start, Production, Constituent, Token, Part, End, closes}
 use Rattle.grammar.specs.Drafts.{Stage, Fresh, Categories, Between, Head, Body, Opened, Draft, constituents_so_far, open_production, productions_so_far}
 
 abbrev pub has_some : {X : Type 0} → List X → Bool
@@ -85,7 +85,7 @@ abbrev pub in_limits : Stage → Draft → Command → Bool
 in_limits s d (Kind k) = true
 in_limits s d (Category x) = nat_lt (length d.dimensions) most_categories
 in_limits s d (Start x) = true
-in_limits s d (Production c w n x y z) = nat_lt (length (productions_so_far s d)) most_productions
+in_limits s d (Production o) = nat_lt (length (productions_so_far s d)) most_productions
 in_limits s d Constituent = cond (is_open s) (nat_lt (length (constituents_so_far s d.opened)) (dimension d.dimensions d.opened.category)) true
 in_limits s d (Token t) = room_for_symbol s d
 in_limits s d (Part k l) = room_for_symbol s d
@@ -125,7 +125,7 @@ abbrev pub allowed : Stage → Draft → Command → Bool
 allowed s d (Kind k) = is_fresh s
 allowed s d (Category x) = in_categories s
 allowed s d (Start x) = in_categories s && has_some d.dimensions
-allowed s d (Production c w n x y z) = past_start s
+allowed s d (Production o) = past_start s
 allowed s d Constituent = may_open s d.opened
 allowed s d (Token t) = in_constituent s
 allowed s d (Part k l) = in_constituent s
@@ -136,7 +136,7 @@ abbrev pub start_fits : Draft → Command → Bool
 start_fits d (Kind k) = true
 start_fits d (Category x) = true
 start_fits d (Start x) = nat_lt x (length d.dimensions) && dimension d.dimensions x == 1
-start_fits d (Production c w n x y z) = true
+start_fits d (Production o) = true
 start_fits d Constituent = true
 start_fits d (Token t) = true
 start_fits d (Part k l) = true
@@ -146,9 +146,11 @@ start_fits d End = true
 abbrev pub argument_fits : ℕ → ℕ → ℕ → ℕ → Bool
 argument_fits known n i x = cond (nat_lt i n) (nat_lt x known) (x == unused)
 
-abbrev pub production_fits : ℕ → ℕ → ℕ → ℕ → ℕ → ℕ → ℕ → Bool
-production_fits known c w n x y z =
-    nat_lt c known && (nat_lt 0 w && (nat_le n most_arity && (argument_fits known n 0 x && (argument_fits known n 1 y && argument_fits known n 2 z))))
+abbrev pub production_fits : ℕ → Operands → Bool
+production_fits known o =
+    nat_lt o.category known
+    && (nat_lt 0 o.weight && (nat_le o.arity most_arity
+    && (argument_fits known o.arity 0 o.first && (argument_fits known o.arity 1 o.second && argument_fits known o.arity 2 o.third))))
 
 abbrev pub part_fits : List ℕ → List ℕ → ℕ → ℕ → Bool
 part_fits dimensions arguments k l =
@@ -158,7 +160,7 @@ abbrev pub operands_fit : Draft → Command → Bool
 operands_fit d (Kind k) = true
 operands_fit d (Category x) = nat_le 1 x && nat_le x most_dimension
 operands_fit d (Start x) = true
-operands_fit d (Production c w n x y z) = production_fits (length d.dimensions) c w n x y z
+operands_fit d (Production o) = production_fits (length d.dimensions) o
 operands_fit d Constituent = true
 operands_fit d (Token t) = true
 operands_fit d (Part k l) = part_fits d.dimensions d.opened.arguments k l

@@ -7,6 +7,7 @@
 use Rattle.std.specs.Prelude.{ℕ, ◌+◌, ◌*◌, ◌/◌, ◌%◌, ◌<◌, Bool, true, false, cond, List, [], ◌∷◌, Ok, Err, Result, ◌==◌}
 use Rattle.grammar.specs.Formed.{Each}
 pub use Rattle.grammar.specs.declared.command.Command.{Command}
+pub use Rattle.grammar.specs.declared.command.Operands.{Operands}
 pub use Rattle.grammar.specs.declared.command.Command.TheVariants.{Kind, Category, Start, Production, Constituent, Token, Part, End}
 pub use Rattle.grammar.specs.declared.command.Unread.{Unread}
 pub use Rattle.grammar.specs.declared.command.Unread.TheVariants.{Incomplete, Unknown}
@@ -43,8 +44,12 @@ seven f (a ∷ b ∷ c ∷ d ∷ e ∷ []) = Err Incomplete
 seven f (a ∷ b ∷ c ∷ d ∷ e ∷ x ∷ []) = Err Incomplete
 seven f (a ∷ b ∷ c ∷ d ∷ e ∷ x ∷ y ∷ rest) = Ok (f a b c d e x y, rest)
 
+-- the operands of a PRODUCTION: its category, weight number, arity, and three arguments
+abbrev pub operands : ℕ → ℕ → ℕ → ℕ → ℕ → ℕ → Operands
+operands c w n x y z = record { category = c; weight = w; arity = n; first = x; second = y; third = z }
+
 abbrev pub production_of : ℕ → ℕ → ℕ → ℕ → ℕ → ℕ → ℕ → Command
-production_of c high low n x y z = Production c (wide high low) n x y z
+production_of c high low n x y z = Production (operands c (wide high low) n x y z)
 
 abbrev pub token_of : ℕ → ℕ → Command
 token_of high low = Token (wide high low)
@@ -67,7 +72,7 @@ abbrev pub size : Command → ℕ
 size (Kind k) = 2
 size (Category x) = 2
 size (Start x) = 2
-size (Production c w n x y z) = 8
+size (Production o) = 8
 size Constituent = 1
 size (Token t) = 3
 size (Part k l) = 3
@@ -77,7 +82,7 @@ abbrev pub is_end : Command → Bool
 is_end (Kind k) = false
 is_end (Category x) = false
 is_end (Start x) = false
-is_end (Production c w n x y z) = false
+is_end (Production o) = false
 is_end Constituent = false
 is_end (Token t) = false
 is_end (Part k l) = false
@@ -88,7 +93,7 @@ abbrev pub closes : Command → Bool
 closes (Kind k) = false
 closes (Category x) = false
 closes (Start x) = false
-closes (Production c w n x y z) = true
+closes (Production o) = true
 closes Constituent = false
 closes (Token t) = false
 closes (Part k l) = false
@@ -98,7 +103,7 @@ abbrev pub bytes : Command → List ℕ
 bytes (Kind k) = 1 ∷ k ∷ []
 bytes (Category x) = 2 ∷ x ∷ []
 bytes (Start x) = 3 ∷ x ∷ []
-bytes (Production c w n x y z) = 4 ∷ c ∷ w / 256 ∷ w % 256 ∷ n ∷ x ∷ y ∷ z ∷ []
+bytes (Production o) = 4 ∷ o.category ∷ o.weight / 256 ∷ o.weight % 256 ∷ o.arity ∷ o.first ∷ o.second ∷ o.third ∷ []
 bytes Constituent = 5 ∷ []
 bytes (Token t) = 6 ∷ t / 256 ∷ t % 256 ∷ []
 bytes (Part k l) = 7 ∷ k ∷ l ∷ []

@@ -7,7 +7,7 @@
 use Rattle.std.specs.Prelude.{ℕ, List, [], ◌∷◌, ◌++◌, take}
 use Rattle.grammar.specs.declared.symbol.Symbol.TheVariants as symbol
 use Rattle.grammar.specs.Grammars.{Symbol, ProductionModel, GrammarModel}
-use Rattle.grammar.specs.Commands.{Command, Kind, Category, Start, Production, Constituent, Token, Part, End}
+use Rattle.grammar.specs.Commands.{Command, Operands, Kind, Category, Start, Production, Constituent, Token, Part, End}
 pub use Rattle.grammar.specs.declared.stage.Stage.{Stage}
 pub use Rattle.grammar.specs.declared.stage.Stage.TheVariants.{Fresh, Categories, Between, Head, Body}
 
@@ -54,6 +54,17 @@ productions_so_far Between d = d.productions
 productions_so_far Head d = d.productions ++ open_production Head d.opened ∷ []
 productions_so_far Body d = d.productions ++ open_production Body d.opened ∷ []
 
+-- the open production after its command at the offset at
+abbrev pub opening : ℕ → Operands → Opened
+opening at o = record {
+  offset = at;
+  category = o.category;
+  weight = o.weight;
+  arguments = take o.arity (o.first ∷ o.second ∷ o.third ∷ []);
+  closed = [];
+  current = [];
+}
+
 -- the open production with these constituents closed, and an empty one open
 abbrev pub beginning : Opened → List (List Symbol) → Opened
 beginning o closed = record {
@@ -91,10 +102,9 @@ abbrev pub apply : ℕ → Stage → Draft → Command → Stage × Draft
 apply at s d (Kind k) = (Categories, record { kind = k; dimensions = d.dimensions; start = d.start; productions = d.productions; opened = d.opened })
 apply at s d (Category x) = (Categories, record { kind = d.kind; dimensions = d.dimensions ++ x ∷ []; start = d.start; productions = d.productions; opened = d.opened })
 apply at s d (Start x) = (Between, record { kind = d.kind; dimensions = d.dimensions; start = x; productions = d.productions; opened = d.opened })
-apply at s d (Production c w n x y z) = (
+apply at s d (Production o) = (
   Head,
-  with_productions d (productions_so_far s d)
-      (record { offset = at; category = c; weight = w; arguments = take n (x ∷ y ∷ z ∷ []); closed = []; current = [] }),
+  with_productions d (productions_so_far s d) (opening at o),
 )
 apply at s d Constituent = (Body, with_productions d d.productions (beginning d.opened (constituents_so_far s d.opened)))
 apply at s d (Token t) = (Body, with_symbol d (symbol.Token t))

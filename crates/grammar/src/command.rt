@@ -2,6 +2,17 @@
 ghost use Rattle.std.specs.Prelude.{◌≡◌, Ok, Err, MatchResult};
 ghost use Rattle.grammar.specs.Commands.{next_of, wide, is_end};
 
+// The operands of a PRODUCTION: the arity says how many of the three arguments count.
+#[derive(Clone, Copy, Default)]
+pub struct Operands {
+    pub category: u8,
+    pub weight: u16,
+    pub arity: u8,
+    pub first: u8,
+    pub second: u8,
+    pub third: u8,
+}
+
 #[derive(Clone, Copy)]
 pub enum Command {
     Kind {
@@ -13,14 +24,7 @@ pub enum Command {
     Start {
         category: u8,
     },
-    Production {
-        category: u8,
-        weight: u16,
-        arity: u8,
-        first: u8,
-        second: u8,
-        third: u8,
-    },
+    Production(Operands),
     Constituent,
     Token {
         token: u16,
@@ -84,14 +88,14 @@ pub fn next_command(pack: &[u8]) -> Result<(Command, &[u8]), Unread>
             third,
             rest @ ..,
         ] => Ok((
-            Command::Production {
+            Command::Production(Operands {
                 category: *category,
                 weight: wide_of(*weight_high, *weight_low),
                 arity: *arity,
                 first: *first,
                 second: *second,
                 third: *third,
-            },
+            }),
             rest,
         )),
         [0x05, rest @ ..] => Ok((Command::Constituent, rest)),

@@ -13,7 +13,7 @@ mod taking;
 mod tokens;
 mod trees;
 
-pub use command::{Command, Unread, next_command};
+pub use command::{Command, Operands, Unread, next_command};
 pub use held::Grammar;
 pub use production::{Constituent, Production};
 pub use stops::{Layer, PackStop};

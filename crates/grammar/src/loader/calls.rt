@@ -11,10 +11,9 @@ ghost use Rattle.grammar.specs.Held.{production_model};
 ghost use Rattle.grammar.specs.Model.{model};
 ghost use Rattle.grammar.specs.Tested.{formed};
 
-use crate::command::Command;
+use crate::command::{Command, Operands};
 use crate::filling::{dimension_of, each_has_some, names_each};
 use crate::held::Grammar;
-use crate::loader::opening::production_fits;
 use crate::loader::{Loader, OpenProduction};
 use crate::production::Production;
 use crate::stage::Stage;
@@ -33,7 +32,7 @@ impl Loader {
             dimensions: ArrayVec::new(),
             start: 0,
             productions: ArrayVec::new(),
-            opened: OpenProduction::new(0, 0, 0, ArrayVec::new()),
+            opened: OpenProduction::new(0, Operands::default()),
         }
     }
 
@@ -116,26 +115,17 @@ impl Loader {
         Ok(())
     }
 
-    fn open(
-        &mut self,
-        at: usize,
-        category: u8,
-        weight: u16,
-        arity: u8,
-        arguments: [u8; 3],
-    ) -> Result<(), PackStop>
+    fn open(&mut self, at: usize, operands: Operands) -> Result<(), PackStop>
         requires { self.old.stage ≡ Between }
-        ensures { Stepped at self.old (Opens category weight arity (slice_index arguments 0) (slice_index arguments 1) (slice_index arguments 2)) result self.new }
+        ensures { Stepped at self.old (Opens operands) result self.new }
     {
         if self.productions.is_full() {
             return Err(PackStop::TooMany { at });
         }
-        if !production_fits(self.dimensions.len(), category, weight, arity, arguments) {
+        if !operands.fit(self.dimensions.len()) {
             return Err(PackStop::BadOperand { at });
         }
-        let mut arguments = ArrayVec::from(arguments);
-        arguments.truncate(arity as usize);
-        self.opened = OpenProduction::new(at, category, weight, arguments);
+        self.opened = OpenProduction::new(at, operands);
         self.stage = Stage::Head;
         Ok(())
     }
@@ -210,32 +200,12 @@ impl Loader {
             ),
             (_, Command::Category { .. }) => Err(self.late_category(at)),
             (Stage::Categories, Command::Start { category }) => self.set_start(at, category),
-            (
-                Stage::Between,
-                Command::Production {
-                    category,
-                    weight,
-                    arity,
-                    first,
-                    second,
-                    third,
-                },
-            ) => self.open(at, category, weight, arity, [first, second, third]),
-            (
-                Stage::Body,
-                Command::Production {
-                    category,
-                    weight,
-                    arity,
-                    first,
-                    second,
-                    third,
-                },
-            ) => {
+            (Stage::Between, Command::Production(operands)) => self.open(at, operands),
+            (Stage::Body, Command::Production(operands)) => {
                 self.close()?;
-                self.open(at, category, weight, arity, [first, second, third])
+                self.open(at, operands)
             }
-            (Stage::Head, Command::Production { .. }) | (Stage::Head, Command::End) => {
+            (Stage::Head, Command::Production(_)) | (Stage::Head, Command::End) => {
                 Err(PackStop::Unfilled {
                     production: self.opened.offset,
                 })

@@ -1,11 +1,12 @@
 // The production that is open, and what its operands must be.
-ghost use Rattle.std.specs.Prelude.{◌≡◌, ℕ, ◌+◌, ◌<◌, ◌≤◌, Bool, [], ◌∷◌, ◌++◌, map, length, slice_index};
+ghost use Rattle.std.specs.Prelude.{◌≡◌, ℕ, ◌+◌, ◌<◌, ◌≤◌, Bool, [], ◌∷◌, ◌++◌, map, length, take};
 ghost use Rattle.grammar.specs.Checks.{argument_fits, part_fits, production_fits};
-ghost use Rattle.grammar.specs.Drafts.{Body, beginning, constituents_so_far, one_more, open_production};
+ghost use Rattle.grammar.specs.Drafts.{Body, beginning, opening, constituents_so_far, one_more, open_production};
 ghost use Rattle.grammar.specs.Entries.{entries};
 ghost use Rattle.grammar.specs.Held.{production_model};
 ghost use Rattle.grammar.specs.Loaders.{opened_of};
 
+use crate::command::Operands;
 use crate::filling::dimension_of;
 use crate::loader::OpenProduction;
 use crate::production::{Constituent, Production};
@@ -23,38 +24,39 @@ fn argument_fits(known: usize, arity: u8, i: u8, argument: u8) -> bool
     }
 }
 
-// The operands of a PRODUCTION, where so many categories are known.
-pub(crate) fn production_fits(
-    known: usize,
-    category: u8,
-    weight: u16,
-    arity: u8,
-    arguments: [u8; 3],
-) -> bool
-    ensures { result ≡ production_fits known category weight arity (slice_index arguments 0) (slice_index arguments 1) (slice_index arguments 2) }
-{
-    (category as usize) < known
-        && 0 < weight
-        && arity <= 3
-        && argument_fits(known, arity, 0, arguments[0])
-        && argument_fits(known, arity, 1, arguments[1])
-        && argument_fits(known, arity, 2, arguments[2])
+impl Operands {
+    // They are as they must be, where so many categories are known.
+    pub(crate) fn fit(&self, known: usize) -> bool
+        ensures { result ≡ production_fits known self.now }
+    {
+        (self.category as usize) < known
+            && 0 < self.weight
+            && self.arity <= 3
+            && argument_fits(known, self.arity, 0, self.first)
+            && argument_fits(known, self.arity, 1, self.second)
+            && argument_fits(known, self.arity, 2, self.third)
+    }
+
+    // The arguments that count.
+    fn arguments(&self) -> ArrayVec<u8, 3>
+        ensures { entries result ≡ take self.now.arity (self.now.first ∷ self.now.second ∷ self.now.third ∷ []) }
+    {
+        let mut arguments = ArrayVec::from([self.first, self.second, self.third]);
+        arguments.truncate(self.arity as usize);
+        arguments
+    }
 }
 
 impl OpenProduction {
-    pub(crate) fn new(
-        offset: usize,
-        category: u8,
-        weight: u16,
-        arguments: ArrayVec<u8, 3>,
-    ) -> OpenProduction
-        ensures { opened_of result ≡ record { offset = offset; category = category; weight = weight; arguments = entries arguments; closed = []; current = [] } }
+    // None of its constituents is open.
+    pub(crate) fn new(offset: usize, operands: Operands) -> OpenProduction
+        ensures { opened_of result ≡ opening offset operands }
     {
         OpenProduction {
             offset,
-            category,
-            weight,
-            arguments,
+            category: operands.category,
+            weight: operands.weight,
+            arguments: operands.arguments(),
             closed: ArrayVec::new(),
             current: Constituent::new(),
         }
