@@ -1,5 +1,5 @@
 -- A pack with a reason to be stopped is stopped by it.
-use Rattle.std.proofs.Common.{◌≡◌, ℕ, ◌+◌, Bool, true, false, ◌↔◌, List, ◌∷◌, ◌++◌, length, Err, Result, sym, refl, ap, ◌∙◌, append_assoc, length-append}
+use Rattle.std.proofs.Common.{◌≡◌, ℕ, ◌+◌, Bool, true, false, List, ◌∷◌, ◌++◌, length, Err, Result, sym, refl, ap, ◌∙◌, append_assoc, length-append}
 use Rattle.std.proofs.lemmas.Bool.{cond-true, cond-false}
 use Rattle.grammar.specs.Stops.{Stop, stop_at, Grammar}
 use Rattle.grammar.specs.Commands.{Command, End, Incomplete, Unknown, next_of, size, bytes}
@@ -7,11 +7,10 @@ use Rattle.grammar.specs.Drafts.{Stage, Draft, apply}
 use Rattle.grammar.specs.Checks.{filled, all_named, in_limits, allowed, start_fits, operands_fit}
 use Rattle.grammar.specs.Loads.{need, step, run, load_of}
 use Rattle.grammar.specs.Stopping.{Reached, nothing, command, Refused, by_6, by_7, by_4, by_3, by_8, by_5, Because, incomplete, unknown, refused, trailing, Stopped}
-use Rattle.grammar.specs.Commands.{Bytes}
 use Rattle.grammar.proofs.Reading.{read_back}
 use Rattle.grammar.proofs.Accepting.{step_passed}
 use Rattle.grammar.proofs.Runs.{load_more, load_finish, load_stop, load_unread}
-use Rattle.grammar.proofs.Stopping.{size_is, stops_are_met}
+use Rattle.grammar.proofs.Stopping.{size_is}
 
 -- a load of the whole goes on as a load of what is left
 reached_runs : {w : List ℕ} {s : Stage} {d : Draft} → Reached w s d → (q : List ℕ) → load_of (w ++ q) ≡ run (length q) (length w) s d q
@@ -54,6 +53,3 @@ because_runs at s d q o (trailing b rest e h) =
 pub stopped_is : (p : List ℕ) (o : Stop) → Stopped p o → load_of p ≡ Err o
 stopped_is p o h =
     ap load_of (sym h.whole) ∙ reached_runs h.reached h.behind ∙ because_runs (length h.before) h.stage h.draft h.behind o h.because
-
-pub stops_exactly : (p : List ℕ) (o : Stop) → Bytes p → (load_of p ≡ Err o) ↔ Stopped p o
-stops_exactly p o b = (stops_are_met p o b, stopped_is p o)

@@ -17,10 +17,6 @@ pub is_some : {X : Type 0} (xs : List X) → 1 ≤ length xs → has_some xs ≡
 is_some [] h = absurd (omega arith)
 is_some (x ∷ xs) h = refl
 
-pub none_is : {X : Type 0} (xs : List X) → length xs ≡ 0 → has_some xs ≡ false
-none_is [] h = refl
-none_is (x ∷ xs) h = absurd (omega arith)
-
 module _ {X : Type 0} (f : X → Bool) (P : X → Type 0) where
   pub all_is : ((x : X) → f x ≡ true → P x) → (xs : List X) → all f xs ≡ true → Each P xs
   all_is h [] e = tt

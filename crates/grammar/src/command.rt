@@ -15,24 +15,13 @@ pub struct Operands {
 
 #[derive(Clone, Copy)]
 pub enum Command {
-    Kind {
-        kind: u8,
-    },
-    Category {
-        dimension: u8,
-    },
-    Start {
-        category: u8,
-    },
+    Kind { kind: u8 },
+    Category { dimension: u8 },
+    Start { category: u8 },
     Production(Operands),
     Constituent,
-    Token {
-        token: u16,
-    },
-    Part {
-        argument: u8,
-        constituent: u8,
-    },
+    Token { token: u16 },
+    Part { argument: u8, constituent: u8 },
     End,
 }
 

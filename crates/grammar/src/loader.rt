@@ -22,6 +22,7 @@ pub(crate) struct OpenProduction {
     ghost few: { length (entries closed) ≤ 1 },
 }
 
+// `opened` stands beside `stage`: a draft keeps what was opened after its close, where a stage that carried it would lose it.
 #[derive(Drop)]
 pub(crate) struct Loader {
     stage: Stage,

@@ -62,7 +62,7 @@ impl OpenProduction {
         }
     }
 
-    // The production as it stands, its current constituent the last.
+    // The production as it stands, its current constituent the last. It is a copy, since a draft keeps what was opened.
     pub(crate) fn production(&self) -> Production
         ensures { production_model result ≡ open_production Body (opened_of self.now) }
     {
