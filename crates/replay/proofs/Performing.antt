@@ -1,22 +1,19 @@
 -- One command on a stack whose tokens lie end to end.
-use Rattle.std.proofs.Common.{◌≡◌, ℕ, ◌+◌, ◌-◌, ◌<◌, ◌≤◌, true, false, List, [], ◌∷◌, map, length, take, drop, Some, None, Ok, Err, sym, ap, ◌∙◌, subst, ap₂, arith, length-drop}
+use Rattle.std.proofs.Common.{◌≡◌, ℕ, ◌+◌, ◌-◌, ◌<◌, ◌≤◌, true, false, ◌&&◌, eqb, List, [], ◌∷◌, map, length, take, drop, sum, refl, Ok, Err, sym, ap, ◌∙◌, ap₂, arith, slice_range, length-drop}
+use Rattle.std.proofs.lemmas.List.{take_rest}
+use Rattle.std.proofs.lemmas.List.Sums.{sum_by-take-drop, sum_by-take-le}
 use Rattle.grammar.specs.declared.symbol.Symbol.{Symbol}
 use Rattle.grammar.specs.Grammars.{ProductionModel}
 use Rattle.grammar.specs.Trees.{spell, tokens_in}
-use Rattle.replay.specs.declared.pile.Pile.{Pile}
 use Rattle.replay.specs.Stops.{stop_at}
-use Rattle.replay.specs.Replays.{Yields, most_tokens, fit, put, categories_on, strings_on, tokens_on, perform}
-use Rattle.replay.specs.Piles.{items}
-use Rattle.replay.specs.Shapes.{Lengths, Shape, size, total, laid_out, Laid, StringsPut}
+use Rattle.replay.specs.Replays.{Yield, Yields, most_tokens, fit, put, categories_on, strings_on, tokens_on, perform}
+use Rattle.replay.specs.Shapes.{Shape, size, total, cut, laid_out, Put}
 use Rattle.replay.specs.Stacks.{NoneEmpty}
-use Rattle.replay.proofs.Laid.{categories, categories_laid, length_laid, take_laid, drop_laid, tokens_laid, total_front, cut_tokens}
+use Rattle.replay.proofs.Laid.{categories, categories_laid, length_laid, take_laid, drop_laid, tokens_laid, put_cut, put_size, put_behind, put_longer}
 use Rattle.replay.proofs.Tested.{perform_few, perform_other, perform_long, perform_put}
 
-pub pile_most : {T : Type 0} {n : ℕ} (p : Pile T n) → length (items p) ≤ n
-pile_most p = omega (arith, length-drop p.top p.cells, p.long, p.most)
-
 -- no more yields than tokens
-pub few_yields : (stack : Yields) → NoneEmpty stack → length stack ≤ tokens_on stack
+few_yields : (stack : Yields) → NoneEmpty stack → length stack ≤ tokens_on stack
 few_yields [] h = omega arith
 few_yields (y ∷ ys) h = omega (arith, h.0, few_yields ys h.1)
 
@@ -32,7 +29,10 @@ module _ (r : ProductionModel) (at : ℕ) (ss : List Shape) (ts : List ℕ) (who
   behind = drop (total (take n ss)) ts
 
   behind_long : total (drop n ss) ≡ length behind
-  behind_long = omega (arith, length-drop (total (take n ss)) ts, total_front ss n, whole)
+  behind_long = omega (arith, length-drop (total (take n ss)) ts, sum_by-take-drop size ss n, whole)
+
+  pub taken_most : total (take n ss) ≤ length ts
+  taken_most = omega (arith, sum_by-take-le size ss n, whole)
 
   put_tokens : tokens_on (put r stack) ≡ tokens_in (map (spell (strings_on (take n stack))) r.constituents) + length behind
   put_tokens =
@@ -43,71 +43,64 @@ module _ (r : ProductionModel) (at : ℕ) (ss : List Shape) (ts : List ℕ) (who
         behind_long,
       )
 
-  -- what the code holds for these
-  module _ (arguments : List ℕ) (shapes : List Shape) (a-is : arguments ≡ r.arguments) (s-is : shapes ≡ ss) where
-    pub too_few : length shapes < length arguments → perform r at stack ≡ Err (stop_at 14 at)
-    too_few h = perform_few r at stack (omega (arith, length_laid ss ts, ap length a-is, ap length s-is))
+  pub too_few : length ss < n → perform r at stack ≡ Err (stop_at 14 at)
+  too_few h = perform_few r at stack (omega (arith, length_laid ss ts))
 
-    pub enough_of : length arguments ≤ length shapes → n ≤ length stack
-    enough_of h = omega (arith, length_laid ss ts, ap length a-is, ap length s-is)
+  pub fit_is : fit r.arguments (categories (take n ss)) ≡ fit r.arguments (categories_on stack)
+  fit_is = fit_front r.arguments ss ∙ ap (fit r.arguments) (sym (categories_laid ss ts))
+    where
+      fit_front : (cs : List ℕ) (rs : List Shape) → fit cs (categories (take (length cs) rs)) ≡ fit cs (categories rs)
+      fit_front [] rs = refl
+      fit_front (c ∷ cs) [] = refl
+      fit_front (c ∷ cs) (s ∷ rs) = ap (λ b. (eqb s.category c && b)) (fit_front cs rs)
 
-    fit_is : fit arguments (categories shapes) ≡ fit r.arguments (categories_on stack)
-    fit_is = ap₂ (λ a s. fit a (categories s)) a-is s-is ∙ ap (fit r.arguments) (sym (categories_laid ss ts))
-
-    pub fits_of : true ≡ fit arguments (categories shapes) → fit r.arguments (categories_on stack) ≡ true
-    fits_of e = sym (e ∙ fit_is)
-
-    pub wrong_category : length arguments ≤ length shapes → false ≡ fit arguments (categories shapes) → perform r at stack ≡ Err (stop_at 15 at)
-    wrong_category h e = perform_other r at stack (enough_of h) (sym (e ∙ fit_is))
-
-    pub taken_total : total (take (length arguments - 0) shapes) ≡ total (take n ss)
-    taken_total =
+  -- what the code takes from the top
+  module _ (arguments : List ℕ) (held shapes : List Shape) (a-is : arguments ≡ r.arguments) (h-is : held ≡ ss) (s-is : shapes ≡ slice_range held 0 (length arguments)) where
+    pub shapes_are : shapes ≡ take n ss
+    shapes_are =
         let z : length arguments - 0 ≡ n = omega (arith, ap length a-is) in
-        ap₂ (λ k s. total (take k s)) z s-is
+        s-is ∙ ap₂ (λ (k : ℕ) (rs : List Shape). take k rs) z h-is
 
-    pub taken_most : total (take (length arguments - 0) shapes) ≤ length ts
-    taken_most = omega (arith, taken_total, total_front ss n, whole)
+    pub fit_taken : fit arguments (categories shapes) ≡ fit r.arguments (categories (take n ss))
+    fit_taken = ap₂ (λ a s. fit a (categories s)) a-is shapes_are
 
-    module _ (lent old : List ℕ) (constituents : List (List Symbol)) (sum : ℕ) (l-is : lent ≡ ts) (c-is : constituents ≡ r.constituents)
-        (sum_is_lem : sum ≡ total (take (length arguments - 0) shapes)) (o_is : old ≡ drop sum ts) where
-      strings_are : strings_on (laid_out (take (length arguments - 0) shapes) lent) ≡ strings_on (take n stack)
-      strings_are =
-          let z : length arguments - 0 ≡ n = omega (arith, ap length a-is) in
-          ap strings_on (ap₂ laid_out (ap₂ (λ (k : ℕ) (s : List Shape). take k s) z s-is) l-is ∙ sym (take_laid n ss ts))
+    module _ (tokens : List ℕ) (constituents : List (List Symbol)) (sum : ℕ) (t-is : tokens ≡ ts) (c-is : constituents ≡ r.constituents) (sum-is : sum ≡ total shapes) where
+      pub strings_are : map (spell (strings_on (laid_out shapes tokens))) constituents ≡ map (spell (strings_on (take n stack))) r.constituents
+      strings_are = ap₂ (λ (ys : Yields) (cs : List (List Symbol)). map (spell (strings_on ys)) cs) (ap₂ laid_out shapes_are t-is ∙ sym (take_laid n ss ts)) c-is
 
-      old_is : old ≡ behind
-      old_is = o_is ∙ ap (λ k. drop k ts) (sum_is_lem ∙ taken_total)
+      pub behind_is : take (length tokens - sum) (drop sum tokens) ≡ behind
+      behind_is = take_rest tokens sum ∙ ap₂ (λ (k : ℕ) (us : List ℕ). drop k us) (sum-is ∙ ap total shapes_are) t-is
 
-      made_is : map (spell (strings_on (laid_out (take (length arguments - 0) shapes) lent))) constituents ≡ map (spell (strings_on (take n stack))) r.constituents
-      made_is = ap₂ (λ y c. map (spell y) c) strings_are c-is
+  module _ (enough : n ≤ length ss) where
+    pub enough_on : n ≤ length stack
+    enough_on = omega (arith, length_laid ss ts)
 
-      pub too_long : (after : List ℕ) → length arguments ≤ length shapes → true ≡ fit arguments (categories shapes)
-          → StringsPut (strings_on (laid_out (take (length arguments - 0) shapes) lent)) constituents old after None → perform r at stack ≡ Err (stop_at 16 at)
-      too_long after h f g =
-          perform_long r at stack (enough_of h) (fits_of f) (omega (arith, put_tokens, ap tokens_in made_is, ap length old_is, g))
+    pub wrong_category : fit r.arguments (categories (take n ss)) ≡ false → perform r at stack ≡ Err (stop_at 15 at)
+    wrong_category h = perform_other r at stack enough_on (sym fit_is ∙ h)
 
-      pub made_laid : (after : List ℕ) (l : Lengths) → StringsPut (strings_on (laid_out (take (length arguments - 0) shapes) lent)) constituents old after (Some l)
-          → Laid (map (spell (strings_on (take n stack))) r.constituents) behind after l
-      made_laid after l g =
-          subst (λ (o : List ℕ). Laid (map (spell (strings_on (take n stack))) r.constituents) o after l) old_is
-          (subst (λ (s : List (List ℕ)). Laid s old after l) made_is g)
+    module _ (fits : fit r.arguments (categories (take n ss)) ≡ true) where
+      pub fits_on : fit r.arguments (categories_on stack) ≡ true
+      fits_on = sym fit_is ∙ fits
+
+      pub too_long : most_tokens < tokens_in (map (spell (strings_on (take n stack))) r.constituents) + length behind → perform r at stack ≡ Err (stop_at 16 at)
+      too_long h = perform_long r at stack enough_on fits_on (omega (arith, put_tokens))
 
   -- the stack after the command
-  module _ (after : List ℕ) (l : Lengths) (laid : Laid (map (spell (strings_on (take n stack))) r.constituents) behind after l) where
-    pub after_whole : size l + total (drop n ss) ≡ length after
-    after_whole = omega (arith, laid.longer, behind_long)
+  module _ (lengths after : List ℕ) (made : Put (map (spell (strings_on (take n stack))) r.constituents) behind lengths after) where
+    pub after_whole : sum lengths + total (drop n ss) ≡ length after
+    after_whole = omega (arith, put_longer behind _ lengths after made, behind_long)
 
     after_tokens : tokens_on (put r stack) ≡ length after
-    after_tokens =
-        omega (arith, put_tokens, ap tokens_in (sym laid.front), cut_tokens l after (omega (arith, laid.longer)), laid.longer)
+    after_tokens = omega (arith, put_tokens, put_size behind _ lengths after made, put_longer behind _ lengths after made)
 
     pub after_few : length after ≤ most_tokens → NoneEmpty (put r stack) → length (drop n ss) < most_tokens
     after_few h e =
         omega (arith, few_yields (put r stack) e, after_tokens, ap length (drop_laid n ss ts), length_laid (drop n ss) behind)
 
-    pub performed : (shapes : List Shape) → length after ≤ most_tokens → n ≤ length stack → fit r.arguments (categories_on stack) ≡ true
-        → shapes ≡ record { category = r.category; lengths = l } ∷ drop n ss → perform r at stack ≡ Ok (laid_out shapes after)
-    performed shapes h enough fits e =
+    pub performed : (x : Shape) → length after ≤ most_tokens → n ≤ length stack → fit r.arguments (categories_on stack) ≡ true
+        → x.category ≡ r.category → x.lengths.items ≡ lengths → perform r at stack ≡ Ok (laid_out (x ∷ drop n ss) after)
+    performed x h enough fits c-is l-is =
         perform_put r at stack enough fits (omega (arith, after_tokens))
-        ∙ ap {B = _} Ok (sym (ap (λ (s : List Shape). laid_out s after) e
-        ∙ ap₂ (λ (s : List (List ℕ)) (ys : Yields). record { category = r.category; strings = s } ∷ ys) laid.front (ap (laid_out (drop n ss)) laid.behind ∙ sym (drop_laid n ss ts))))
+        ∙ ap {B = _} Ok (sym (ap₂ (λ (y : Yield) (ys : Yields). y ∷ ys)
+        (ap₂ (λ (k : ℕ) (y : List (List ℕ)). record { category = k; strings = y }) c-is (ap (λ (ns : List ℕ). cut ns after) l-is ∙ put_cut behind _ lengths after made))
+        (ap (λ (ns : List ℕ). laid_out (drop n ss) (drop (sum ns) after)) l-is ∙ ap (laid_out (drop n ss)) (put_behind behind _ lengths after made) ∙ sym (drop_laid n ss ts))))

@@ -1,6 +1,7 @@
--- A command list run from its end: what is left is run, and what a command gives is what the whole gives.
-use Rattle.std.proofs.Common.{◌≡◌, ℕ, zero, suc, ◌+◌, ◌*◌, ◌/◌, ◌%◌, ◌<◌, ◌≤◌, true, ltb, List, [], ◌∷◌, map, length, get_or, drop, Ok, Err, Result, sym, ap, ◌∙◌, subst, ap₂, arith, length-drop}
-use Rattle.std.proofs.lemmas.List.{drop_more, drop_all, get_or-map, length-map}
+-- A command list run from its end: what a command gives is what the whole gives.
+use Rattle.std.proofs.Common.{◌≡◌, ℕ, ◌+◌, ◌-◌, ◌%◌, ◌<◌, ◌≤◌, true, ltb, List, [], ◌∷◌, ◌++◌, map, length, get_or, take, drop, Some, None, Ok, Err, Result, Option, MatchResult, sym, refl, ap, ◌∙◌, subst, ap₂, append_assoc, arith, length-append}
+use Rattle.std.specs.Option.{ok_or}
+use Rattle.std.proofs.lemmas.List.{get_or-map, length-map, take-append-drop}
 use Rattle.std.proofs.lemmas.Bool.{eq-eqb, ne_eqb, lt-ltb, le-ltb}
 use Rattle.grammar.specs.declared.production.Production.{Production}
 use Rattle.grammar.specs.Grammars.{ProductionModel, GrammarModel, production, no_production}
@@ -10,96 +11,98 @@ use Rattle.grammar.specs.Commands.{Bytes, wide}
 use Rattle.grammar.specs.Trees.{command_byte}
 use Rattle.replay.specs.Stops.{Stop, stop_at}
 use Rattle.replay.specs.Replays.{Yields, and_then, fit, put, categories_on, perform, command, run}
-use Rattle.replay.specs.Stacks.{NoneEmpty}
+use Rattle.replay.specs.Stacks.{NoneEmpty, Names, Unnamed, does}
 use Rattle.replay.proofs.Tested.{need_met, need_not}
 use Rattle.replay.proofs.Sound.{constituents_few, none_empty, stand_put, run_ran}
 
-three_more : (xs : List ℕ) (i : ℕ) → i + 3 ≤ length xs → drop i xs ≡ get_or xs i 0 ∷ get_or xs (i + 1) 0 ∷ get_or xs (i + 2) 0 ∷ drop (i + 3) xs
-three_more xs i h =
-    let two : i + 1 + 1 ≡ i + 2 = omega arith in
-    let three : i + 2 + 1 ≡ i + 3 = omega arith in
-    drop_more xs i 0 (omega arith)
-    ∙ ap (λ (ys : List ℕ). get_or xs i 0 ∷ ys) (drop_more xs (i + 1) 0 (omega arith)
-    ∙ ap (λ (ys : List ℕ). get_or xs (i + 1) 0 ∷ ys) (ap (λ (k : ℕ). drop k xs) two ∙ drop_more xs (i + 2) 0 (omega arith)
-    ∙ ap (λ (k : ℕ). get_or xs (i + 2) 0 ∷ drop k xs) three))
+-- the production of a command, as it is held
+module _ (g : GrammarModel) (bytes : List ℕ) (at : ℕ) where
+  pub other : (get_or bytes 0 0 ≡ command_byte → ⊥) → Unnamed g bytes at (stop_at 12 at)
+  other h stack = need_not _ 12 at _ (ne_eqb _ _ h)
 
--- a stop of what is left is the stop of the whole
-stops_from : (g : GrammarModel) (k at : ℕ) (xs : List ℕ) (o : Stop) → k * 3 ≤ length xs → run g (at + k * 3) (drop (k * 3) xs) ≡ Err o → run g at xs ≡ Err o
-stops_from g zero at xs o h e = let z : at + 0 * 3 ≡ at = omega arith in ap (λ (n : ℕ). run g n xs) (sym z) ∙ e
-stops_from g (suc k) at [] o h e = absurd (omega arith)
-stops_from g (suc k) at (a ∷ []) o h e = absurd (omega arith)
-stops_from g (suc k) at (a ∷ b ∷ []) o h e = absurd (omega arith)
-stops_from g (suc k) at (a ∷ b ∷ c ∷ xs) o h e =
-    let m : suc k * 3 ≡ suc (suc (suc (k * 3))) = omega arith in
-    let n : at + suc k * 3 ≡ at + 3 + k * 3 = omega arith in
-    let rest : run g (at + 3 + k * 3) (drop (k * 3) xs) ≡ Err o = ap₂ (λ (u v : ℕ). run g u (drop v (a ∷ b ∷ c ∷ xs))) (sym n) (sym m) ∙ e in
-    ap (λ (r : Result Yields Stop). and_then r (command g at a b c)) (stops_from g k (at + 3) xs o (omega arith) rest)
+  module _ (ps : List Production) (held : map production_model ps ≡ g.productions) (byte : get_or bytes 0 0 ≡ command_byte)
+      (n : ℕ) (n-is : n ≡ wide (get_or bytes 1 0) (get_or bytes 2 0)) where
+    many : length g.productions ≡ length ps
+    many = ap length (sym held) ∙ length-map ps production_model
 
-each_drop : (P : ℕ → Type 0) (xs : List ℕ) (n : ℕ) → Each P xs → Each P (drop n xs)
-each_drop P xs zero h = h
-each_drop P [] (suc n) h = tt
-each_drop P (x ∷ xs) (suc n) h = each_drop P xs n h.1
+    pub unknown : length ps ≤ n → Unnamed g bytes at (stop_at 13 at)
+    unknown h stack =
+        let q : ℕ = wide (get_or bytes 1 0) (get_or bytes 2 0) in
+        let past : length g.productions ≤ q = omega (arith, many) in
+        need_met _ 12 at _ (eq-eqb _ _ byte) ∙ need_not (ltb q (length g.productions)) 13 at _ (le-ltb q (length g.productions) past)
 
-module _ (g : GrammarModel) (xs : List ℕ) where
-  -- what running the list from an offset on gives
-  abbrev pub from : ℕ → Result Yields Stop
-  from at = run g at (drop at xs)
+    pub names : (x : Production) → n < length ps → x ≡ get_or ps n x → Names g bytes at (production_model x)
+    names x h x-is =
+        let q : ℕ = wide (get_or bytes 1 0) (get_or bytes 2 0) in
+        let known : q < length g.productions = omega (arith, many) in
+        let is : production g n ≡ production_model x =
+        ap (λ (rs : List ProductionModel). get_or rs n no_production) (sym held) ∙ get_or-map production_model ps n x no_production h ∙ ap production_model (sym x-is) in
+        record {
+          number = n;
+          known = omega (arith, many);
+          held = is;
+          performs = λ stack. need_met _ 12 at _ (eq-eqb _ _ byte) ∙ need_met (ltb q (length g.productions)) 13 at _ (lt-ltb q (length g.productions) known)
+              ∙ ap (λ (q : ℕ). perform (production g q) at stack) (sym n-is) ∙ ap (λ (r : ProductionModel). perform r at stack) is;
+        }
 
-  pub from_end : from (length xs) ≡ Ok []
-  from_end = ap (run g (length xs)) (drop_all (length xs) xs (omega arith))
+pub match_ok_or : {X E : Type 0} (o : Option X) (e : E) (P : X → Type 0) (Q : E → Type 0) → ((x : X) → o ≡ Some x → P x) → (o ≡ None → Q e) → MatchResult (ok_or o e) P Q
+match_ok_or None e P Q f h = h refl
+match_ok_or (Some x) e P Q f h = f x refl
 
-  pub stops_at : (at : ℕ) (o : Stop) → at % 3 ≡ 0 → at ≤ length xs → from at ≡ Err o → run g 0 xs ≡ Err o
-  stops_at at o whole h e =
-      let k : at / 3 * 3 ≡ at = omega arith in
-      let z : 0 + at / 3 * 3 ≡ at = omega arith in
-      stops_from g (at / 3) 0 xs o (omega arith) (ap₂ (λ (u v : ℕ). run g u (drop v xs)) z k ∙ e)
+each_behind : (P : ℕ → Type 0) (xs ys : List ℕ) → Each P (xs ++ ys) → Each P ys
+each_behind P [] ys h = h
+each_behind P (x ∷ xs) ys h = each_behind P xs ys h.1
 
-  -- one command, whose bytes stand at the offset at
-  module _ (at next : ℕ) (stack : Yields) (n-is : at + 3 ≡ next) (inside : next ≤ length xs) (ran : from next ≡ Ok stack) where
-    from_command : from at ≡ command g at (get_or xs at 0) (get_or xs (at + 1) 0) (get_or xs (at + 2) 0) stack
-    from_command =
-        ap (run g at) (three_more xs at (omega arith))
-        ∙ ap (λ (r : Result Yields Stop). and_then r (command g at (get_or xs at 0) (get_or xs (at + 1) 0) (get_or xs (at + 2) 0))) (ap from n-is ∙ ran)
+module _ (g : GrammarModel) where
+  -- a stop of what is left is the stop of the whole
+  pub stops_behind : (at : ℕ) (before list : List ℕ) (o : Stop) → length before % 3 ≡ 0 → run g (at + length before) list ≡ Err o → run g at (before ++ list) ≡ Err o
+  stops_behind at [] list o w e = let z : at + 0 ≡ at = omega arith in ap (λ (n : ℕ). run g n list) (sym z) ∙ e
+  stops_behind at (a ∷ []) list o w e = absurd (omega arith)
+  stops_behind at (a ∷ b ∷ []) list o w e = absurd (omega arith)
+  stops_behind at (a ∷ b ∷ c ∷ before) list o w e =
+      let n : at + 3 + length before ≡ at + length (a ∷ b ∷ c ∷ before) = omega arith in
+      ap (λ (r : Result Yields Stop). and_then r (command g at a b c))
+      (stops_behind (at + 3) before list o (omega arith) (ap (λ (m : ℕ). run g m list) n ∙ e))
 
-    pub from_other : (get_or xs at 0 ≡ command_byte → ⊥) → from at ≡ Err (stop_at 12 at)
-    from_other h = from_command ∙ need_not _ 12 at _ (ne_eqb _ _ h)
+  one_command : (at : ℕ) (bytes later : List ℕ) (stack : Yields) → length bytes ≡ 3 → run g (at + 3) later ≡ Ok stack → run g at (bytes ++ later) ≡ does g bytes at stack
+  one_command at [] later stack n e = absurd (omega arith)
+  one_command at (a ∷ []) later stack n e = absurd (omega arith)
+  one_command at (a ∷ b ∷ []) later stack n e = absurd (omega arith)
+  one_command at (a ∷ b ∷ c ∷ []) later stack n e = ap (λ (r : Result Yields Stop). and_then r (command g at a b c)) e
+  one_command at (a ∷ b ∷ c ∷ d ∷ bytes) later stack n e = absurd (omega arith)
 
-    module _ (byte : get_or xs at 0 ≡ command_byte) (p : ℕ) (p-is : p ≡ wide (get_or xs (at + 1) 0) (get_or xs (at + 2) 0)) where
-      pub from_unknown : length g.productions ≤ p → from at ≡ Err (stop_at 13 at)
-      from_unknown h =
-          let q : ℕ = wide (get_or xs (at + 1) 0) (get_or xs (at + 2) 0) in
-          let past : length g.productions ≤ q = omega arith in
-          from_command ∙ need_met _ 12 at _ (eq-eqb _ _ byte) ∙ need_not (ltb q (length g.productions)) 13 at _ (le-ltb q (length g.productions) past)
+  -- the commands behind the rest have been run, and its last one is next
+  module _ (list rest later before bytes : List ℕ) (stack : Yields) (whole : list ≡ rest ++ later) (ran : run g (length rest) later ≡ Ok stack)
+      (front : before ≡ take (length rest - 3) rest) (last : bytes ≡ drop (length rest - 3) rest) (less : length before + 3 ≡ length rest) where
+    parted : rest ≡ before ++ bytes
+    parted = sym (take-append-drop (length rest - 3) rest) ∙ sym (ap₂ (λ (a b : List ℕ). a ++ b) front last)
 
-      pub from_performed : p < length g.productions → from at ≡ perform (production g p) at stack
-      from_performed h =
-          let q : ℕ = wide (get_or xs (at + 1) 0) (get_or xs (at + 2) 0) in
-          let known : q < length g.productions = omega arith in
-          from_command ∙ need_met _ 12 at _ (eq-eqb _ _ byte) ∙ need_met (ltb q (length g.productions)) 13 at _ (lt-ltb q (length g.productions) known)
-          ∙ ap (λ (q : ℕ). perform (production g q) at stack) (sym p-is)
+    pub next_whole : list ≡ before ++ (bytes ++ later)
+    next_whole = whole ∙ ap (λ (a : List ℕ). a ++ later) parted ∙ append_assoc before bytes later
 
-  -- what a production makes of a stack that was run has no empty yield
-  pub ran_filled : (next : ℕ) (stack : Yields) → WellFormed g → Bytes xs → length xs % 3 ≡ 0 → next % 3 ≡ 0 → next ≤ length xs → from next ≡ Ok stack
-      → (p : ℕ) → p < length g.productions → fit (production g p).arguments (categories_on stack) ≡ true → NoneEmpty (put (production g p) stack)
-  ran_filled next stack well bytes whole third inside e p l f =
-      let ran = run_ran g next (drop next xs) stack (each_drop (λ b. b < 256) xs next bytes) (omega (arith, length-drop next xs)) e in
-      let put_on = stand_put g p ran.forest stack l ran.stands f in
-      none_empty g well put_on.forest (put (production g p) stack) put_on.stands
+    pub next_is : run g (length before) (bytes ++ later) ≡ does g bytes (length before) stack
+    next_is =
+        one_command (length before) bytes later stack (omega (arith, ap length parted, length-append before bytes))
+        (ap (λ (n : ℕ). run g n later) less ∙ ran)
 
--- the production with this number, as it is held
-pub held_at : (g : GrammarModel) (ps : List Production) (p : ℕ) (x : Production) → map production_model ps ≡ g.productions → p < length ps → x ≡ get_or ps p x
-    → production g p ≡ production_model x
-held_at g ps p x e l is =
-    ap (λ (rs : List ProductionModel). get_or rs p no_production) (sym e) ∙ get_or-map production_model ps p x no_production l ∙ ap production_model (sym is)
+    pub next_stops : (o : Stop) → length rest % 3 ≡ 0 → does g bytes (length before) stack ≡ Err o → run g 0 list ≡ Err o
+    next_stops o w e =
+        ap (run g 0) next_whole ∙ stops_behind 0 before (bytes ++ later) o (omega arith) (ap (λ (n : ℕ). run g n (bytes ++ later)) zero_on ∙ next_is ∙ e)
+      where
+        zero_on : 0 + length before ≡ length before
+        zero_on = omega arith
 
-pub held_many : (g : GrammarModel) (ps : List Production) → map production_model ps ≡ g.productions → length g.productions ≡ length ps
-held_many g ps e = ap length (sym e) ∙ length-map ps production_model
-
--- what performing it asks for
-pub can_perform : (g : GrammarModel) (xs : List ℕ) (next : ℕ) (stack : Yields) → WellFormed g → Bytes xs → length xs % 3 ≡ 0 → next % 3 ≡ 0 → next ≤ length xs
-    → from g xs next ≡ Ok stack → (p : ℕ) → p < length g.productions → (r : ProductionModel) → production g p ≡ r
-    → OneOrTwo (length r.constituents) × (fit r.arguments (categories_on stack) ≡ true → NoneEmpty (put r stack))
-can_perform g xs next stack well bytes whole third inside e p l r is = (
-  subst (λ (q : ProductionModel). OneOrTwo (length q.constituents)) is (constituents_few g well p l),
-  subst (λ (q : ProductionModel). fit q.arguments (categories_on stack) ≡ true → NoneEmpty (put q stack)) is (ran_filled g xs next stack well bytes whole third inside e p l),
-)
+    -- what performing the production asks for
+    pub can_perform : WellFormed g → Bytes list → length list % 3 ≡ 0 → length rest % 3 ≡ 0 → (at : ℕ) (r : ProductionModel) → Names g bytes at r
+        → OneOrTwo (length r.constituents) × (fit r.arguments (categories_on stack) ≡ true → NoneEmpty (put r stack))
+    can_perform well typed third w at r names = (
+      subst (λ (q : ProductionModel). OneOrTwo (length q.constituents)) names.held (constituents_few g well names.number names.known),
+      subst (λ (q : ProductionModel). fit q.arguments (categories_on stack) ≡ true → NoneEmpty (put q stack)) names.held filled,
+    )
+      where
+        filled : fit (production g names.number).arguments (categories_on stack) ≡ true → NoneEmpty (put (production g names.number) stack)
+        filled f =
+            let ran-is = run_ran g (length rest) later stack (each_behind (λ b. b < 256) rest later (subst Bytes whole typed))
+            (omega (arith, ap length whole, length-append rest later)) ran in
+            let put_on = stand_put g names.number ran-is.forest stack names.known ran-is.stands f in
+            none_empty g well put_on.forest (put (production g names.number) stack) put_on.stands

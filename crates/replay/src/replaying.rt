@@ -1,36 +1,45 @@
 // A whole command list, run from its last command to its first, and the phrase that it leaves.
-ghost use Rattle.std.specs.Prelude.{◌≡◌, ◌%◌, length, Ok, Err, MatchResult};
+ghost use Rattle.std.specs.Prelude.{◌≡◌, ◌%◌, ◌∷◌, [], length, Ok, Err, MatchResult};
+ghost use Rattle.grammar.specs.Held.{production_model};
 ghost use Rattle.grammar.specs.Model.{model};
 ghost use Rattle.replay.specs.Laws.{Gives, Replayed};
 ghost use Rattle.replay.specs.Replays.{replay_of, run};
-ghost use Rattle.replay.specs.Stacks.{stack_of};
+ghost use Rattle.replay.specs.Stacks.{Names, Unnamed, stack_of};
 ghost use Rattle.replay.specs.Stops.{told};
 
 use crate::stack::Stack;
 use crate::stops::ReplayStop;
-use grammar::Grammar;
+use grammar::{Grammar, Production};
 
 // The first byte of every command; the production's number follows, the high byte first.
 const COMMAND: u8 = 0x10;
+
+// The production that the command at this offset names.
+fn named(grammar: &Grammar, command: [u8; 3], at: usize) -> Result<&Production, ReplayStop>
+    ensures { MatchResult result (λ p. Names (model grammar.now) command at (production_model p.now)) (λ e. Unnamed (model grammar.now) command at (told e)) }
+{
+    let [COMMAND, high, low] = command else {
+        return Err(ReplayStop::NoCommand { at });
+    };
+    let number = u16::from_be_bytes([high, low]);
+    grammar
+        .productions()
+        .get(number as usize)
+        .ok_or(ReplayStop::NoProduction { at })
+}
 
 // What the commands leave on the stack.
 fn run_all(grammar: &Grammar, commands: &[u8]) -> Result<Stack, ReplayStop>
     requires { length commands.now % 3 ≡ 0 }
     ensures { MatchResult result (λ s. run (model grammar.now) 0 commands.now ≡ Ok (stack_of s)) (λ e. run (model grammar.now) 0 commands.now ≡ Err (told e)) }
 {
-    let productions = grammar.productions();
     let mut stack = Stack::new();
-    let mut at = commands.len();
-    while at > 0 {
-        at -= 3;
-        if commands[at] != COMMAND {
-            return Err(ReplayStop::NoCommand { at });
-        }
-        let number = commands[at + 1] as usize * 256 + commands[at + 2] as usize;
-        if number >= productions.len() {
-            return Err(ReplayStop::NoProduction { at });
-        }
-        stack.perform(&productions[number], at)?;
+    let mut rest = commands;
+    while let Some((before, command)) = rest.split_last_chunk() {
+        let at = before.len();
+        let production = named(grammar, *command, at)?;
+        stack.perform(production, at)?;
+        rest = before;
     }
     Ok(stack)
 }
@@ -46,11 +55,11 @@ pub fn replay(grammar: &Grammar, commands: &[u8], output: &mut [u16]) -> Result<
         });
     }
     let stack = run_all(grammar, commands)?;
-    let length = stack.phrase(grammar.start())?;
-    if output.len() < length {
-        return Err(ReplayStop::NoRoom { tokens: length });
+    let phrase = stack.phrase(grammar.start())?;
+    let tokens = phrase.len();
+    if output.len() < tokens {
+        return Err(ReplayStop::NoRoom { tokens });
     }
-    let tokens = stack.tokens.items();
-    output[0..length].copy_from_slice(&tokens[0..length]);
-    Ok(length)
+    output[..tokens].copy_from_slice(phrase);
+    Ok(tokens)
 }

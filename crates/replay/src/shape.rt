@@ -1,15 +1,14 @@
 // The shape of a stacked yield, whose tokens lie elsewhere: its category, and how long each of its strings is.
+use arrayvec::ArrayVec;
+
 mod calls;
 
-pub(crate) use calls::{fits, place, total};
+pub(crate) use calls::{fits, joined, total};
 
-#[derive(Clone, Copy)]
-pub(crate) enum Lengths {
-    One(usize),
-    Two(usize, usize),
-}
+// How long each string is; a stack holds few tokens, so a byte has room for it.
+pub(crate) type Lengths = ArrayVec<u8, 2>;
 
-#[derive(Clone, Copy)]
+#[derive(Default, Drop)]
 pub(crate) struct Shape {
     pub(crate) category: u8,
     pub(crate) lengths: Lengths,

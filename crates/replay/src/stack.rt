@@ -1,22 +1,20 @@
 // The stack of a replay: the shapes of its yields, and their tokens end to end, the topmost first.
 ghost use Rattle.std.specs.Prelude.{◌≡◌, length};
-ghost use Rattle.replay.specs.Piles.{items};
 ghost use Rattle.replay.specs.Shapes.{total};
 
-use crate::pile::Pile;
 use crate::shape::Shape;
+use arrayvec::ArrayVec;
 
 mod calls;
-mod putting;
 
 // How many tokens the stack may hold. Each yield has a token, so it holds no more yields either.
 pub(crate) const MOST_TOKENS: usize = 15;
 
-pub(crate) type Tokens = Pile<u16, MOST_TOKENS>;
+pub(crate) type Tokens = ArrayVec<u16, MOST_TOKENS>;
 
 #[derive(Drop)]
 pub(crate) struct Stack {
-    pub(crate) shapes: Pile<Shape, MOST_TOKENS>,
+    pub(crate) shapes: ArrayVec<Shape, MOST_TOKENS>,
     pub(crate) tokens: Tokens,
-    ghost laid: { total (items shapes) ≡ length (items tokens) },
+    ghost laid: { total shapes.items ≡ length tokens.items },
 }

@@ -1,56 +1,44 @@
 // A stack without yields, one command on it, and the phrase that it holds at the end.
-ghost use Rattle.std.specs.Prelude.{◌≡◌, true, [], length};
+ghost use Rattle.std.specs.Prelude.{◌≡◌, true, [], length, MatchResult};
 ghost use Rattle.grammar.specs.Formed.{OneOrTwo};
 ghost use Rattle.grammar.specs.Held.{production_model};
 ghost use Rattle.replay.specs.Replays.{categories_on, fit, put};
-ghost use Rattle.replay.specs.Stacks.{Left, NoneEmpty, Performed, Yielded, stack_of};
+ghost use Rattle.replay.specs.Stacks.{Left, Made, NoneEmpty, NotLeft, Performed, Stops, stack_of};
 
-use crate::pile::Pile;
+use crate::front::Front;
 use crate::shape::{Lengths, Shape, fits, total};
-use crate::stack::putting::push_strings;
 use crate::stack::{Stack, Tokens};
 use crate::stops::ReplayStop;
+use arrayvec::ArrayVec;
 use grammar::Production;
 
 impl Stack {
     pub(crate) fn new() -> Stack
         ensures { stack_of result ≡ [] }
     {
-        let nothing = Shape {
-            category: 0,
-            lengths: Lengths::One(0),
-        };
         Stack {
-            shapes: Pile::new(nothing),
-            tokens: Pile::new(0),
+            shapes: ArrayVec::new(),
+            tokens: Tokens::new(),
         }
     }
 
     // The tokens that the stack holds after the production's command, and the lengths of the strings that are then on top.
     fn yielded(&self, production: &Production, at: usize) -> Result<(Tokens, Lengths), ReplayStop>
         requires dimension { OneOrTwo (length (production_model production.now).constituents) }
-        ensures { Yielded (production_model production.now) at self.now result }
+        ensures { MatchResult result (λ made. Made (production_model production.now) self.now made.0.items made.1.items) (λ e. Stops (production_model production.now) at self.now e) }
     {
         let arguments = production.arguments();
-        let shapes = self.shapes.items();
-        if shapes.len() < arguments.len() {
+        let Some(shapes) = self.shapes.get(..arguments.len()) else {
             return Err(ReplayStop::TooFew { at });
-        }
+        };
         if !fits(arguments, shapes) {
             return Err(ReplayStop::WrongCategory { at });
         }
-        let taken = &shapes[0..arguments.len()];
-        let mut tokens = self.tokens;
-        tokens.take_off(total(taken));
-        match push_strings(
-            &mut tokens,
-            production.constituents(),
-            taken,
-            self.tokens.items(),
-        ) {
-            Some(lengths) => Ok((tokens, lengths)),
-            None => Err(ReplayStop::TooLong { at }),
-        }
+        let tokens = self.tokens.as_slice();
+        let taken = Front { shapes, tokens };
+        taken
+            .spell_all(production.constituents(), &tokens[total(shapes)..])
+            .or(Err(ReplayStop::TooLong { at }))
     }
 
     // The production's arguments are taken from the top, and its yield is put back.
@@ -60,29 +48,36 @@ impl Stack {
         ensures { Performed (production_model production.now) at self.old result self.new }
     {
         let (tokens, lengths) = self.yielded(production, at)?;
-        self.shapes.take_off(production.arguments().len());
-        self.shapes.push(Shape {
-            category: production.category(),
-            lengths,
-        });
+        drop(self.shapes.drain(..production.arguments().len()));
+        self.shapes.insert(
+            0,
+            Shape {
+                category: production.category(),
+                lengths,
+            },
+        );
         self.tokens = tokens;
         Ok(())
     }
 
-    // How many tokens the phrase has: it is the string of the only yield, and stands on top.
-    pub(crate) fn phrase(&self, start: u8) -> Result<usize, ReplayStop>
-        ensures { Left start self.now result }
+    // The phrase: the string of the only yield.
+    pub(crate) fn phrase(&self, start: u8) -> Result<&[u16], ReplayStop>
+        ensures { MatchResult result (λ phrase. Left start self.now phrase.now) (λ e. NotLeft start self.now e) }
     {
-        let shapes = self.shapes.items();
-        if shapes.len() != 1 {
+        let all = Front {
+            shapes: self.shapes.as_slice(),
+            tokens: self.tokens.as_slice(),
+        };
+        let [only] = all.shapes else {
             return Err(ReplayStop::NotOne {
-                yields: shapes.len(),
+                yields: all.shapes.len(),
+            });
+        };
+        if only.category != start {
+            return Err(ReplayStop::NotStart {
+                category: only.category,
             });
         }
-        let category = shapes[0].category;
-        if category != start {
-            return Err(ReplayStop::NotStart { category });
-        }
-        Ok(shapes[0].lengths.first())
+        Ok(all.string(0, 0))
     }
 }

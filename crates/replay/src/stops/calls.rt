@@ -1,6 +1,6 @@
 // What a stop tells.
-ghost use Rattle.std.specs.Prelude.{◌≡◌};
-ghost use Rattle.replay.specs.Stops.{told};
+ghost use Rattle.std.specs.Prelude.{◌≡◌, Some};
+ghost use Rattle.replay.specs.Stops.{told, what, words_of};
 
 use crate::stops::ReplayStop;
 use std::fmt;
@@ -26,20 +26,22 @@ impl ReplayStop {
         ensures { result ≡ (told self.now).figure }
     {
         match *self {
-            ReplayStop::Uneven { length } => length,
-            ReplayStop::NoCommand { at } => at,
-            ReplayStop::NoProduction { at } => at,
-            ReplayStop::TooFew { at } => at,
-            ReplayStop::WrongCategory { at } => at,
-            ReplayStop::TooLong { at } => at,
-            ReplayStop::NotOne { yields } => yields,
-            ReplayStop::NotStart { category } => category as usize,
-            ReplayStop::NoRoom { tokens } => tokens,
+            ReplayStop::Uneven { length: figure }
+            | ReplayStop::NoCommand { at: figure }
+            | ReplayStop::NoProduction { at: figure }
+            | ReplayStop::TooFew { at: figure }
+            | ReplayStop::WrongCategory { at: figure }
+            | ReplayStop::TooLong { at: figure }
+            | ReplayStop::NotOne { yields: figure }
+            | ReplayStop::NoRoom { tokens: figure } => figure,
+            ReplayStop::NotStart { category } => usize::from(category),
         }
     }
 
     // The stop in words, which its figure ends.
-    fn what(&self) -> &'static str {
+    fn what(&self) -> &'static str
+        ensures { result.now ≡ what self.now }
+    {
         match self {
             ReplayStop::Uneven { .. } => "the list is not of whole commands; its bytes are",
             ReplayStop::NoCommand { .. } => "no command begins with the byte at",
@@ -60,6 +62,8 @@ impl ReplayStop {
 }
 
 impl fmt::Display for ReplayStop {
+    ghost output = { λ s. Some (words_of s) };
+
     fn fmt<W: fmt::Write>(&self, f: &mut fmt::Formatter<W>) -> fmt::Result {
         let number = self.number();
         let figure = self.figure();

@@ -1,12 +1,14 @@
-use Rattle.std.proofs.Common.{arith}
-use Rattle.replay.proofs.Laid.{fit_here, fit_on, fit_end}
+use Rattle.std.proofs.Common.{arith, inl, inr}
+use Rattle.replay.proofs.Laid.{fit_other, fit_none}
 use Rattle.replay.proofs.shape.calls.fits.Goals as goal
 
-pub returns-then-shapes-i : goal.returns-then-shapes-i
-returns-then-shapes-i c = fit_here c.args.arguments.now c.args.shapes.now c.loop-i.i _ c.loop-i-test.true (omega arith) c.if-shapes-i.true c.loop-i.invariant
-
-pub loop-i-preserved : goal.loop-i-preserved
-loop-i-preserved c = fit_on c.args.arguments.now c.args.shapes.now c.loop-i.i _ c.loop-i-test.true (omega arith) c.if-shapes-i.false c.loop-i.invariant
+pub returns-then-shape-argument : goal.returns-then-shape-argument
+returns-then-shape-argument c =
+    let s = c.in-Some.ensures.steps in
+    fit_other _ c.loop-argument.argument-iterator.a.rest.now c.loop-argument.argument-iterator.b.rest.now c.loop-argument.invariant.1
+    c.in-Some.argument.now c.in-Some.shape.now c.next.new.self.a.rest.now c.next.new.self.b.rest.now s.0 s.1 c.if-shape-argument.true
 
 pub returns : goal.returns
-returns c = fit_end c.args.arguments.now c.args.shapes.now c.loop-i.i _ c.loop-i-test.false c.loop-i.invariant
+returns c =
+    fit_none _ c.loop-argument.argument-iterator.a.rest.now c.loop-argument.argument-iterator.b.rest.now c.loop-argument.invariant.1
+    (elim c.in-None.ensures.steps [ inl h ↦ omega (arith, h.1.0) | inr h ↦ omega (arith, h.1.0, c.loop-argument.invariant.0) ])

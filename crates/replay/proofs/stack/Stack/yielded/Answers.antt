@@ -1,81 +1,56 @@
-use Rattle.std.proofs.Common.{map, length, sym, ap, ◌∙◌, arith, lit<}
-use Rattle.std.proofs.lemmas.List.{length-map}
-use Rattle.grammar.specs.Entries.{entries}
+use Rattle.std.proofs.Common.{◌≤◌, ◌++◌, map, length, ap, ap₂, sym, ◌∙◌, arith, inl, inr, Ok, Err, Result, MatchResult}
+use Rattle.std.specs.List.{concat}
+use Rattle.std.specs.Result.{result_or}
+use Rattle.grammar.specs.Trees.{tokens_in}
+use Rattle.replay.specs.declared.stops.ReplayStop.TheVariants.{TooLong}
 use Rattle.grammar.specs.Held.{production_model}
-use Rattle.replay.specs.Piles.{items}
 use Rattle.replay.proofs.Performing as performing
 use Rattle.replay.proofs.stack.Stack.yielded.Goals as goal
 
-pub returns-then-shapes-arguments : goal.returns-then-shapes-arguments
-returns-then-shapes-arguments c =
+pub returns-in_default : goal.returns-in_default
+returns-in_default c =
     let s = c.args.self.now in
-    performing.too_few (production_model c.args.production.now) c.args.at (items s.shapes) (items s.tokens) s.laid
-    c.arguments-arguments.result.now c.items-shapes.result.now c.arguments-arguments.ensures c.items-shapes.ensures c.if-shapes-arguments.true
+    performing.too_few (production_model c.args.production.now) c.args.at s.shapes.items s.tokens.items s.laid
+    (elim c.in_default.ensures.lookup.0 [
+      | inl h ↦ absurd (omega (arith, h))
+      | inr h ↦ omega (arith, h, ap length c.deref.ensures.0, ap length c.arguments-arguments.ensures)
+    ])
 
 pub returns-then-not-fits : goal.returns-then-not-fits
 returns-then-not-fits c =
     let s = c.args.self.now in
-    performing.wrong_category (production_model c.args.production.now) c.args.at (items s.shapes) (items s.tokens) s.laid
-    c.arguments-arguments.result.now c.items-shapes.result.now c.arguments-arguments.ensures c.items-shapes.ensures c.if-shapes-arguments.false c.if-not-fits.ensures
+    let h = c.in-Some.ensures.lookup in
+    performing.wrong_category (production_model c.args.production.now) c.args.at s.shapes.items s.tokens.items s.laid
+    (omega (arith, h.0.1, ap length c.deref.ensures.0, ap length c.arguments-arguments.ensures))
+    (sym (performing.fit_taken (production_model c.args.production.now) c.args.at s.shapes.items s.tokens.items s.laid
+    c.arguments-arguments.result.now c.deref.result.now c.in-Some.shapes.now c.arguments-arguments.ensures c.deref.ensures.0 h.0.2) ∙ sym c.if-not-fits.ensures)
 
-pub total-requires : goal.total-requires
-total-requires c =
-    let s = c.args.self.now in
-    omega (
-      arith,
-      performing.taken_most (production_model c.args.production.now) c.args.at (items s.shapes) (items s.tokens) s.laid
-          c.arguments-arguments.result.now c.items-shapes.result.now c.arguments-arguments.ensures c.items-shapes.ensures,
-      performing.pile_most s.tokens,
-    )
+-- an answer whose error `or` puts another in the place of
+handed : {X E F : Type 0} (q : Result X E) (d : F) (P R : X → Type 0) (Q : F → Type 0) (S : E → Type 0)
+    → MatchResult q R S → ((x : X) → R x → P x) → ((e : E) → S e → Q d) → MatchResult (result_or q (Err d)) P Q
+handed (Ok x) d P R Q S h f g = f x h
+handed (Err e) d P R Q S h f g = g e h
 
-pub take_off-requires : goal.take_off-requires
-take_off-requires c =
-    let s = c.args.self.now in (
-      lit< tt,
-      omega (
-        arith,
-        performing.taken_most (production_model c.args.production.now) c.args.at (items s.shapes) (items s.tokens) s.laid
-            c.arguments-arguments.result.now c.items-shapes.result.now c.arguments-arguments.ensures c.items-shapes.ensures,
-        c.total.ensures,
-      ),
-    )
-
-pub push_strings-requires : goal.push_strings-requires
-push_strings-requires c =
-    let s = c.args.self.now in
-    let many = sym (length-map c.constituents.result.now entries) ∙ ap length c.constituents.ensures in
-    record {
-      dimension = record { least = omega (arith, many, c.requires.dimension.least); most = omega (arith, many, c.requires.dimension.most) };
-      laid = omega (
-        arith,
-        performing.taken_most (production_model c.args.production.now) c.args.at (items s.shapes) (items s.tokens) s.laid
-            c.arguments-arguments.result.now c.items-shapes.result.now c.arguments-arguments.ensures c.items-shapes.ensures,
-        ap length c.items.ensures,
-      );
-      most = omega (arith, ap length c.items.ensures, performing.pile_most s.tokens);
-    }
-
-pub returns-in-Some : goal.returns-in-Some
-returns-in-Some c =
+pub returns : goal.returns
+returns c =
     let s = c.args.self.now in
     let r = production_model c.args.production.now in
-    record {
-      enough = performing.enough_of r c.args.at (items s.shapes) (items s.tokens) s.laid
-          c.arguments-arguments.result.now c.items-shapes.result.now c.arguments-arguments.ensures c.items-shapes.ensures c.if-shapes-arguments.false;
-      fits = performing.fits_of r c.args.at (items s.shapes) (items s.tokens) s.laid
-          c.arguments-arguments.result.now c.items-shapes.result.now c.arguments-arguments.ensures c.items-shapes.ensures c.if-not-fits.ensures;
-      laid = performing.made_laid r c.args.at (items s.shapes) (items s.tokens) s.laid
-          c.arguments-arguments.result.now c.items-shapes.result.now c.arguments-arguments.ensures c.items-shapes.ensures
-          c.items.result.now (items c.take_off.new.self) (map entries c.constituents.result.now) c.total.result
-          c.items.ensures c.constituents.ensures c.total.ensures c.take_off.ensures
-          (items c.push_strings.new.tokens) c.in-Some.lengths c.in-Some.ensures;
-    }
-
-pub returns-in-None : goal.returns-in-None
-returns-in-None c =
-    let s = c.args.self.now in
-    performing.too_long (production_model c.args.production.now) c.args.at (items s.shapes) (items s.tokens) s.laid
-    c.arguments-arguments.result.now c.items-shapes.result.now c.arguments-arguments.ensures c.items-shapes.ensures
-    c.items.result.now (items c.take_off.new.self) (map entries c.constituents.result.now) c.total.result
-    c.items.ensures c.constituents.ensures c.total.ensures c.take_off.ensures
-    (items c.push_strings.new.tokens) c.if-shapes-arguments.false c.if-not-fits.ensures c.in-None.ensures
+    let h = c.in-Some.ensures.lookup in
+    let enough : length r.arguments ≤ length s.shapes.items = omega (arith, h.0.1, ap length c.deref.ensures.0, ap length c.arguments-arguments.ensures) in
+    let fits = sym (performing.fit_taken r c.args.at s.shapes.items s.tokens.items s.laid
+    c.arguments-arguments.result.now c.deref.result.now c.in-Some.shapes.now c.arguments-arguments.ensures c.deref.ensures.0 h.0.2) ∙ sym c.if-not-fits.ensures in
+    let strings = performing.strings_are r c.args.at s.shapes.items s.tokens.items s.laid
+    c.arguments-arguments.result.now c.deref.result.now c.in-Some.shapes.now c.arguments-arguments.ensures c.deref.ensures.0 h.0.2
+    c.as_slice-tokens.result.now _ c.total.result c.as_slice-tokens.ensures.value c.constituents.ensures c.total.ensures in
+    let behind = performing.behind_is r c.args.at s.shapes.items s.tokens.items s.laid
+    c.arguments-arguments.result.now c.deref.result.now c.in-Some.shapes.now c.arguments-arguments.ensures c.deref.ensures.0 h.0.2
+    c.as_slice-tokens.result.now _ c.total.result c.as_slice-tokens.ensures.value c.constituents.ensures c.total.ensures in
+    rw c.or.ensures
+    (handed c.spell_all.result (TooLong c.args.at) _ _ _ _ c.spell_all.ensures
+    (λ made put. record {
+      enough = performing.enough_on r c.args.at s.shapes.items s.tokens.items s.laid enough;
+      fits = performing.fits_on r c.args.at s.shapes.items s.tokens.items s.laid enough fits;
+      put = record { long = put.0.long ∙ ap (map length) strings; tokens = put.0.tokens ∙ ap₂ (λ ys ts. concat ys ++ ts) strings behind };
+      few = put.1;
+    })
+    (λ _ over. performing.too_long r c.args.at s.shapes.items s.tokens.items s.laid enough fits (omega (arith, over, ap tokens_in strings, ap length behind))))
