@@ -1,7 +1,11 @@
 -- The law of a replay, from its definition.
-use Rattle.std.proofs.Common.{◌≡◌, ℕ, ◌+◌, ◌%◌, ◌<◌, ◌≤◌, eqb, ltb, leb, List, [], ◌∷◌, length, get_or, take, drop, Ok, Err, Result, sym, refl, ap, ◌∙◌, subst, inl, inr, append-nil, arith}
+use Rattle.std.proofs.Common.{◌≡◌, ℕ, ◌+◌, ◌%◌, ◌<◌, ◌≤◌, eqb, ltb, leb, List, [], ◌∷◌, length, get_or, take, drop, Ok, Err, Result, sym, refl, ap, ◌∙◌, subst, inl, inr, append-nil, Fits, w8, arith}
 use Rattle.std.proofs.lemmas.List.{take_at, length-map}
 use Rattle.std.proofs.lemmas.Bool.{eqb-true, eqb-false, eq-eqb, ne_eqb, leb-true, leb-false, le-leb, lt-leb}
+use Rattle.grammar.specs.declared.held.Grammar.{Grammar}
+use Rattle.grammar.specs.Model.{model}
+use Rattle.grammar.proofs.Formed.{formed_is}
+use Rattle.grammar.proofs.Typed.{typed_bytes}
 use Rattle.grammar.specs.Grammars.{GrammarModel, production}
 use Rattle.grammar.specs.Formed.{WellFormed}
 use Rattle.grammar.specs.Commands.{Bytes, wide}
@@ -283,3 +287,8 @@ replayed g well list before after bytes (Err e) gives = record {
         (says_no_room g well list (length before) s.0 s.1 (omega (arith, s.2, s.3)) ∙ ap {B = Result (List ℕ) Stop} (λ (k : ℕ). Err (stop_at 19 k)) s.2),
   );
 }
+
+-- the law over a held grammar
+pub law_of : (g : Grammar) (list before after : List ℕ) → ((i : ℕ) → Fits w8 (get_or list i 0)) → (r : Result ℕ ReplayStop) → Gives (replay_of (model g) list (length before)) r before after
+    → Replayed (model g) list before after r
+law_of g list before after bytes r v = replayed (model g) (formed_is (model g) g.well_formed) list before after (typed_bytes list bytes) r v

@@ -1,7 +1,7 @@
 -- Yields whose tokens lie end to end.
 use Rattle.std.proofs.Common.{◌≡◌, ℕ, zero, suc, ◌+◌, ◌<◌, ◌≤◌, Bool, true, false, ◌&&◌, eqb, List, [], ◌∷◌, ◌++◌, map, length, get_or, take, drop, sum, sym, refl, ap, ◌∙◌, ap₂, arith, append_assoc, length-append, length-drop}
 use Rattle.std.proofs.lemmas.List.{drop-drop, get_or_past, length-map, length-take-le, take_at, drop_at, nil_from_length}
-use Rattle.std.proofs.lemmas.Bool.{and_left, eq-eqb, ne_eqb}
+use Rattle.std.proofs.lemmas.Bool.{and_left, ne_eqb}
 use Rattle.std.proofs.lemmas.List.Sums.{sum_by-cons, sum_by_more_le}
 use Rattle.std.specs.List.{concat}
 use Rattle.grammar.specs.Trees.{tokens_in}
@@ -129,14 +129,11 @@ module _ (before : List ℕ) where
 -- the categories are tested one by one
 module _ (w : Bool) (cs : List ℕ) (ss : List Shape) (is : w ≡ fit cs (categories ss)) where
   module _ (c : ℕ) (s : Shape) (ds : List ℕ) (rs : List Shape) (c-is : cs ≡ c ∷ ds) (s-is : ss ≡ s ∷ rs) where
-    pub fit_next : w ≡ (eqb s.category c && fit ds (categories rs))
+    fit_next : w ≡ (eqb s.category c && fit ds (categories rs))
     fit_next = is ∙ ap₂ (λ a b. fit a (categories b)) c-is s-is
 
     pub fit_other : (s.category ≡ c → ⊥) → false ≡ w
     fit_other h = sym (fit_next ∙ and_left _ _ (ne_eqb _ _ h))
-
-    pub fit_on : s.category ≡ c → w ≡ fit ds (categories rs)
-    fit_on h = fit_next ∙ ap (λ b. b && fit ds (categories rs)) (eq-eqb _ _ h)
 
   pub fit_none : length cs ≤ 0 → true ≡ w
   fit_none h = sym (is ∙ ap (λ a. fit a (categories ss)) (nil_from_length cs (omega arith)))

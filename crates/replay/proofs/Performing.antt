@@ -1,7 +1,7 @@
 -- One command on a stack whose tokens lie end to end.
 use Rattle.std.proofs.Common.{◌≡◌, ℕ, ◌+◌, ◌-◌, ◌<◌, ◌≤◌, true, false, ◌&&◌, eqb, List, [], ◌∷◌, map, length, take, drop, sum, refl, Ok, Err, sym, ap, ◌∙◌, ap₂, arith, slice_range, length-drop}
 use Rattle.std.proofs.lemmas.List.{take_rest}
-use Rattle.std.proofs.lemmas.List.Sums.{sum_by-take-drop, sum_by-take-le}
+use Rattle.std.proofs.lemmas.List.Sums.{sum_by-take-drop}
 use Rattle.grammar.specs.declared.symbol.Symbol.{Symbol}
 use Rattle.grammar.specs.Grammars.{ProductionModel}
 use Rattle.grammar.specs.Trees.{spell, tokens_in}
@@ -25,14 +25,11 @@ module _ (r : ProductionModel) (at : ℕ) (ss : List Shape) (ts : List ℕ) (who
   stack = laid_out ss ts
 
   -- the tokens behind those of the arguments
-  abbrev pub behind : List ℕ
+  abbrev behind : List ℕ
   behind = drop (total (take n ss)) ts
 
   behind_long : total (drop n ss) ≡ length behind
   behind_long = omega (arith, length-drop (total (take n ss)) ts, sum_by-take-drop size ss n, whole)
-
-  pub taken_most : total (take n ss) ≤ length ts
-  taken_most = omega (arith, sum_by-take-le size ss n, whole)
 
   put_tokens : tokens_on (put r stack) ≡ tokens_in (map (spell (strings_on (take n stack))) r.constituents) + length behind
   put_tokens =
@@ -46,7 +43,7 @@ module _ (r : ProductionModel) (at : ℕ) (ss : List Shape) (ts : List ℕ) (who
   pub too_few : length ss < n → perform r at stack ≡ Err (stop_at 14 at)
   too_few h = perform_few r at stack (omega (arith, length_laid ss ts))
 
-  pub fit_is : fit r.arguments (categories (take n ss)) ≡ fit r.arguments (categories_on stack)
+  fit_is : fit r.arguments (categories (take n ss)) ≡ fit r.arguments (categories_on stack)
   fit_is = fit_front r.arguments ss ∙ ap (fit r.arguments) (sym (categories_laid ss ts))
     where
       fit_front : (cs : List ℕ) (rs : List Shape) → fit cs (categories (take (length cs) rs)) ≡ fit cs (categories rs)
@@ -56,7 +53,7 @@ module _ (r : ProductionModel) (at : ℕ) (ss : List Shape) (ts : List ℕ) (who
 
   -- what the code takes from the top
   module _ (arguments : List ℕ) (held shapes : List Shape) (a-is : arguments ≡ r.arguments) (h-is : held ≡ ss) (s-is : shapes ≡ slice_range held 0 (length arguments)) where
-    pub shapes_are : shapes ≡ take n ss
+    shapes_are : shapes ≡ take n ss
     shapes_are =
         let z : length arguments - 0 ≡ n = omega (arith, ap length a-is) in
         s-is ∙ ap₂ (λ (k : ℕ) (rs : List Shape). take k rs) z h-is

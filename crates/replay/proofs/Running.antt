@@ -2,7 +2,7 @@
 use Rattle.std.proofs.Common.{◌≡◌, ℕ, ◌+◌, ◌-◌, ◌%◌, ◌<◌, ◌≤◌, true, ltb, List, [], ◌∷◌, ◌++◌, map, length, get_or, take, drop, Some, None, Ok, Err, Result, Option, MatchResult, sym, refl, ap, ◌∙◌, subst, ap₂, append_assoc, arith, length-append}
 use Rattle.std.specs.Option.{ok_or}
 use Rattle.std.proofs.lemmas.List.{get_or-map, length-map, take-append-drop}
-use Rattle.std.proofs.lemmas.Bool.{eq-eqb, ne_eqb, lt-ltb, le-ltb}
+use Rattle.std.proofs.lemmas.Bool.{eq-eqb, lt-ltb, le-ltb}
 use Rattle.grammar.specs.declared.production.Production.{Production}
 use Rattle.grammar.specs.Grammars.{ProductionModel, GrammarModel, production, no_production}
 use Rattle.grammar.specs.Held.{production_model}
@@ -17,9 +17,6 @@ use Rattle.replay.proofs.Sound.{constituents_few, none_empty, stand_put, run_ran
 
 -- the production of a command, as it is held
 module _ (g : GrammarModel) (bytes : List ℕ) (at : ℕ) where
-  pub other : (get_or bytes 0 0 ≡ command_byte → ⊥) → Unnamed g bytes at (stop_at 12 at)
-  other h stack = need_not _ 12 at _ (ne_eqb _ _ h)
-
   module _ (ps : List Production) (held : map production_model ps ≡ g.productions) (byte : get_or bytes 0 0 ≡ command_byte)
       (n : ℕ) (n-is : n ≡ wide (get_or bytes 1 0) (get_or bytes 2 0)) where
     many : length g.productions ≡ length ps

@@ -45,6 +45,7 @@ fn run_all(grammar: &Grammar, commands: &[u8]) -> Result<Stack, ReplayStop>
 }
 
 // Runs the commands on a stack of yields, from the last to the first, and writes the phrase that is left to the front of the output.
+#[tactic(auto, using(crate::proofs::Answering::law_of))]
 pub fn replay(grammar: &Grammar, commands: &[u8], output: &mut [u16]) -> Result<usize, ReplayStop>
     ensures value { Gives (replay_of (model grammar.now) commands.now (length output.old)) result output.old output.new }
     ensures law { Replayed (model grammar.now) commands.now output.old output.new result }
