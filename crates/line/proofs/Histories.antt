@@ -9,7 +9,6 @@ use Rattle.line.specs.History.{Mode, History, Open, Sealed, Start, Key, Rub, Wip
 use Rattle.line.specs.Laws.{HistoryLaws}
 use Rattle.line.specs.declared.line.Line.{Line}
 use Rattle.line.specs.declared.line.Phrase.{Phrase}
-use Rattle.line.proofs.Lists.{line_short}
 
 added_below : (ts : List ℕ) (t : ℕ) → length ts < room → added ts t ≡ ts ++ t ∷ []
 added_below ts t h = let e : eqb (length ts) room ≡ false = ne_eqb _ _ (λ z. omega arith) in rw e refl
@@ -50,7 +49,7 @@ keyed_keys h (t ∷ ts) l =
     keyed_keys (Key h t) ts (omega arith) ∙ ap (λ xs. xs ++ ts) e ∙ append_assoc (keyed h) (t ∷ []) ts
 
 line_history : (l : Line) → (h : History Open) × LineOf h l
-line_history l = (keys Start (tokens_of l), sym (keyed_keys Start (tokens_of l) (omega (arith, line_short l))))
+line_history l = (keys Start (tokens_of l), sym (keyed_keys Start (tokens_of l) (omega (arith, l.short))))
 
 phrase_history : (p : Phrase) → (h : History Sealed) × PhraseOf h p
 phrase_history p = let q = line_history p.line in (Seal q.0, q.1)

@@ -1,4 +1,3 @@
-mod Lists
 mod Histories
 mod Spelled
 mod Words

@@ -1,6 +1,6 @@
 -- One call more in a run: the history that the calls spell, what is held, and the counts.
-use Rattle.std.proofs.Common.{◌≡◌, ℕ, ◌+◌, ◌<◌, ◌≤◌, List, [], ◌∷◌, ◌++◌, length, get_or, take, refl, ap, ◌∙◌, subst, arith}
-use Rattle.std.proofs.lemmas.List.{take_more, take_all}
+use Rattle.std.proofs.Common.{◌≡◌, ℕ, ◌+◌, ◌<◌, ◌≤◌, List, [], ◌∷◌, ◌++◌, length, get_or, take, refl, ap, ◌∙◌, arith}
+use Rattle.std.proofs.lemmas.List.{take_more}
 use Rattle.line.specs.Stops.{Done, Stop}
 use Rattle.line.specs.Runs.{Past, OfLine, OfPhrase, Reply, Made, WhileSealed, WhileOpen, HeldOf, keyed_in, content_of, replied, made, made_all, spelled, stops_in, calls_in, stop_count, skip_count}
 use Rattle.line.specs.declared.run.Call.{Call}
@@ -51,9 +51,6 @@ pub record Sofar (p : Past) (i : ℕ) (x : Held) (s u : ℕ) : Type 0 where
   pub unmade : u + calls_in p ≡ i
   pub few : s ≤ i
 
-pub sofar_none : (x : Held) → HeldOf (spelled []) x → Sofar (spelled []) 0 x 0 0
-sofar_none x e = record { held = e; stopped = refl; unmade = refl; few = omega arith }
-
 pub sofar_more : (p q : Past) (c : Call) (i : ℕ) (x y : Held) (s u t v : ℕ) (a : Reply) → Sofar p i x s u
     → q ≡ made p c → a ≡ replied (content_of x) c → HeldOf (made p c) y → t ≡ s + stop_count a → v ≡ u + skip_count a
     → Sofar q (i + 1) y t v
@@ -65,10 +62,3 @@ sofar_more p q c i x y s u t v a so spells answer holds more skips =
     let n = calls_more p c in
     let one = one_at_most a in
     rw spells record { held = holds; stopped = omega (arith, so.stopped); unmade = omega (arith, so.unmade); few = omega (arith, so.few) }
-
--- where the calls are at their end
-pub sofar_all : (cs : List Call) (i : ℕ) (x : Held) (s u : ℕ) → length cs ≤ i → i ≤ length cs → Sofar (spelled (take i cs)) i x s u → Sofar (spelled cs) (length cs) x s u
-sofar_all cs i x s u l h so =
-    let all = ap spelled (take_all i cs l) in
-    let same : i ≡ length cs = omega arith in
-    subst (λ p. Sofar p (length cs) x s u) all (subst (λ n. Sofar (spelled (take i cs)) n x s u) same so)

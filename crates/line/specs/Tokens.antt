@@ -9,9 +9,9 @@ use Rattle.line.specs.Stops.{Told, Done, Stop}
 use Rattle.line.specs.declared.line.Line.{Line}
 use Rattle.line.specs.declared.line.Phrase.{Phrase}
 
--- The front of the array, as long as the count says.
+-- What the line keeps, in the order of its keying.
 abbrev pub tokens_of : Line → List ℕ
-tokens_of l = take l.count l.tokens
+tokens_of l = l.tokens.items
 
 -- Those of the line that was sealed.
 abbrev pub phrase_of : Phrase → List ℕ

@@ -1,20 +1,20 @@
 // The two states of what is keyed: a line, which is open, and a phrase, which is sealed.
-ghost use Rattle.std.specs.Prelude.{◌≡◌, ◌≤◌, length};
+ghost use Rattle.std.specs.Prelude.{◌≤◌};
+ghost use Rattle.arrayvec.specs.ArrayVec.{array_vec_len};
 ghost use Rattle.line.specs.Room.{room};
 
 mod calls;
 
+use arrayvec::ArrayVec;
+
 // How many tokens a line holds at most.
 pub const LINE_ROOM: usize = 15;
 
-// The tokens are the first `count` of the array; what stands behind them means nothing.
 // Neither a line nor a phrase is copied, so that there is one history of each.
 #[derive(Drop)]
 pub struct Line {
-    tokens: [u16; LINE_ROOM],
-    count: usize,
-    ghost long: { length tokens ≡ room },
-    ghost ok: { count ≤ room },
+    tokens: ArrayVec<u16, LINE_ROOM>,
+    ghost short: { array_vec_len tokens ≤ room },
 }
 
 // A phrase is a line out of reach of key, rub and wipe; only `seal` makes one.

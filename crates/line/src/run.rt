@@ -50,66 +50,24 @@ impl Held {
         ensures tokens { content_of result.0 ≡ after (content_of self) call }
         ensures law { (p : Past) → HeldOf p self → HeldOf (made p call) result.0 }
     {
-        match self {
-            Held::Open(line) => perform_on_line(line, call),
-            Held::Sealed(phrase) => perform_on_phrase(phrase, call),
+        match (self, call) {
+            (Held::Open(mut line), Call::Key(token)) => {
+                let answer = line.key(token).map_err(Refusal::Stopped);
+                (Held::Open(line), answer)
+            }
+            (Held::Open(mut line), Call::Rub) => {
+                let answer = line.rub().map_err(Refusal::Stopped);
+                (Held::Open(line), answer)
+            }
+            (Held::Open(mut line), Call::Wipe) => {
+                line.wipe();
+                (Held::Open(line), Ok(()))
+            }
+            (Held::Open(line), Call::Seal) => (Held::Sealed(line.seal()), Ok(())),
+            (Held::Open(line), Call::Reopen) => (Held::Open(line), Err(Refusal::NotSealed)),
+            (Held::Sealed(phrase), Call::Reopen) => (Held::Open(phrase.reopen()), Ok(())),
+            (Held::Sealed(phrase), _) => (Held::Sealed(phrase), Err(Refusal::IsSealed)),
         }
-    }
-}
-
-fn perform_on_line(mut line: Line, call: Call) -> (Held, Result<(), Refusal>)
-    ensures answer { reply result.1 ≡ replied (content_of (Held.Open line)) call }
-    ensures tokens { content_of result.0 ≡ after (content_of (Held.Open line)) call }
-{
-    match call {
-        Call::Key(token) => {
-            let answer = line.key(token);
-            (Held::Open(line), or_stopped(answer))
-        }
-        Call::Rub => {
-            let answer = line.rub();
-            (Held::Open(line), or_stopped(answer))
-        }
-        Call::Wipe => {
-            line.wipe();
-            (Held::Open(line), Ok(()))
-        }
-        Call::Seal => (Held::Sealed(line.seal()), Ok(())),
-        Call::Reopen => (Held::Open(line), Err(Refusal::NotSealed)),
-    }
-}
-
-fn perform_on_phrase(phrase: Phrase, call: Call) -> (Held, Result<(), Refusal>)
-    ensures answer { reply result.1 ≡ replied (content_of (Held.Sealed phrase)) call }
-    ensures tokens { content_of result.0 ≡ after (content_of (Held.Sealed phrase)) call }
-{
-    match call {
-        Call::Reopen => (Held::Open(phrase.reopen()), Ok(())),
-        _ => (Held::Sealed(phrase), Err(Refusal::IsSealed)),
-    }
-}
-
-// A stop, as the refusal that it is.
-fn or_stopped(answer: Result<(), LineStop>) -> Result<(), Refusal>
-    ensures { reply result ≡ Made (told answer) }
-{
-    match answer {
-        Ok(()) => Ok(()),
-        Err(stop) => Err(Refusal::Stopped(stop)),
-    }
-}
-
-// What an answer adds to the calls that were stopped, and to those that were not made.
-fn counted(answer: Result<(), Refusal>) -> (usize, usize)
-    ensures stops { result.0 ≡ stop_count (reply answer) }
-    ensures skips { result.1 ≡ skip_count (reply answer) }
-    ensures bound { result.0 + result.1 ≤ 1 }
-{
-    match answer {
-        Ok(()) => (0, 0),
-        Err(Refusal::Stopped(_)) => (1, 0),
-        Err(Refusal::IsSealed) => (0, 1),
-        Err(Refusal::NotSealed) => (0, 1),
     }
 }
 
@@ -126,9 +84,12 @@ pub fn run_calls(calls: &[Call]) -> Ran
     for call in calls {
         let (next, answer) = held.perform(*call);
         held = next;
-        let (stops, skips) = counted(answer);
-        stopped += stops;
-        unmade += skips;
+        match answer {
+            Ok(()) => {}
+            Err(Refusal::Stopped(_)) => stopped += 1,
+            Err(Refusal::IsSealed) => unmade += 1,
+            Err(Refusal::NotSealed) => unmade += 1,
+        }
     }
     Ran {
         held,

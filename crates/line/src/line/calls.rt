@@ -8,6 +8,7 @@ ghost use Rattle.line.specs.Tokens.{tokens_of, phrase_of, added, rubbed, key_tol
 
 use crate::line::{LINE_ROOM, Line, Phrase};
 use crate::stop::LineStop;
+use arrayvec::ArrayVec;
 
 impl Line {
     // How many tokens a line holds at most, whatever was done with it.
@@ -24,8 +25,7 @@ impl Line {
         ensures law { LineOf Start result }
     {
         Line {
-            tokens: [0; LINE_ROOM],
-            count: 0,
+            tokens: ArrayVec::new(),
         }
     }
 
@@ -35,12 +35,7 @@ impl Line {
         ensures tokens { tokens_of self.new ≡ added (tokens_of self.old) token }
         ensures law { (h : History Open) → LineOf h self.old → LineOf (Key h token) self.new }
     {
-        if self.count == LINE_ROOM {
-            return Err(LineStop::Full);
-        }
-        self.tokens[self.count] = token;
-        self.count += 1;
-        Ok(())
+        self.tokens.try_push(token).map_err(|_| LineStop::Full)
     }
 
     // Takes the last token off.
@@ -49,10 +44,7 @@ impl Line {
         ensures tokens { tokens_of self.new ≡ rubbed (tokens_of self.old) }
         ensures law { (h : History Open) → LineOf h self.old → LineOf (Rub h) self.new }
     {
-        if self.count == 0 {
-            return Err(LineStop::Empty);
-        }
-        self.count -= 1;
+        self.tokens.pop().ok_or(LineStop::Empty)?;
         Ok(())
     }
 
@@ -61,7 +53,7 @@ impl Line {
         ensures tokens { tokens_of self.new ≡ [] }
         ensures law { (h : History Open) → LineOf h self.old → LineOf (Wipe h) self.new }
     {
-        self.count = 0;
+        self.tokens.clear();
     }
 
     // Ends the keying: the line is given up for the phrase of its tokens.
@@ -77,7 +69,7 @@ impl Line {
         ensures tokens { result.now ≡ tokens_of self.now }
         ensures law { (h : History Open) → LineOf h self.now → result.now ≡ keyed h }
     {
-        &self.tokens[0..self.count]
+        self.tokens.as_slice()
     }
 }
 
