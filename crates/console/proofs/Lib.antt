@@ -1,4 +1,3 @@
 mod Spelling
-mod Numbering
 mod Listing
 mod Blanks

@@ -3,3 +3,4 @@ pub mod Decimal
 pub mod Texts
 pub mod Steps
 pub mod Sessions
+pub mod Lists

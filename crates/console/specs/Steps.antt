@@ -2,12 +2,15 @@
 --   blank line       the line has no byte but spaces and tabs
 --   AsksFor line t   the line asks for the step t
 --   Asked line r     r is what the line asks for, and an error where it asks for nothing
+--   Parsed line r    the same, where r may also be want of memory
 use Rattle.std.specs.Prelude.{◌≡◌, ℕ, Bool, true, ◌&&◌, ◌||◌, List, [], ◌∷◌, ◌++◌, Some, Ok, Err, vec_items, codes, Result, ◌==◌, ◌≢◌}
 use Rattle.line.specs.declared.run.Call.{Call}
 use Rattle.line.specs.declared.run.Call.TheVariants as call
 use Rattle.console.specs.declared.step.Step.{Step}
 use Rattle.console.specs.declared.step.Step.TheVariants as step
 use Rattle.console.specs.declared.step.Fault.{Fault}
+use Rattle.console.specs.declared.step.ParseError.{ParseError}
+use Rattle.console.specs.declared.step.ParseError.TheVariants as error
 use Rattle.console.specs.Hex.{bytes_of}
 use Rattle.console.specs.Decimal.{number_of}
 
@@ -47,6 +50,12 @@ abbrev pub Asked : List ℕ → Result Step Fault → Type 0
 Asked line (Ok t) = AsksFor line t
 Asked line (Err f) = (t : Step) → AsksFor line t → ⊥
 
+-- want of memory says nothing of the line
+abbrev pub Parsed : List ℕ → Result Step ParseError → Type 0
+Parsed line (Ok t) = Asked line (Ok t)
+Parsed line (Err (error.Fault f)) = Asked line (Err f)
+Parsed line (Err (error.OutOfMemory a)) = Unit {0}
+
 -- the line is none of the words that stand alone
 pub record NoWord (line : List ℕ) : Type 0 where
   pub grammar : line ≡ codes "grammar" → ⊥
@@ -60,7 +69,3 @@ pub record Wordless (line : List ℕ) : Type 0 where
   pub some : blank line ≡ true → ⊥
   pub plain : (text : List ℕ) → line ≢ codes "#" ++ text
   pub word : NoWord line
-
--- the line does not begin with the word
-abbrev pub Lacks : List ℕ → List ℕ → Type 0
-Lacks word line = (text : List ℕ) → line ≢ word ++ text

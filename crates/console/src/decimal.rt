@@ -1,25 +1,22 @@
 // Numbers as text: decimal digits, one at least.
-ghost use Rattle.std.specs.Prelude.{◌≡◌, ◌≤◌, IfSome};
+ghost use Rattle.std.specs.Prelude.{◌≡◌};
 ghost use Rattle.console.specs.Decimal.{number_of};
+ghost use Rattle.console.specs.Steps.{most};
 
-// The number that a text spells, if it spells one that is at most `most`.
-pub(crate) fn number_of(text: &[u8], most: u32) -> Option<u32>
-    ensures value { result ≡ number_of most text.now }
-    ensures bound { IfSome result (λ n. n ≤ most) }
+// The number that a text spells, if it spells one that is at most 65535.
+// It isn't `parse`, which takes a sign in front.
+pub(crate) fn number_of(text: &[u8]) -> Option<u16>
+    ensures { result ≡ number_of most text.now }
 {
     if text.is_empty() {
         return None;
     }
-    let mut value = 0;
+    let mut value: u16 = 0;
     for c in text {
         if !c.is_ascii_digit() {
             return None;
         }
-        let next = value as u64 * 10 + (*c - 48) as u64;
-        if (most as u64) < next {
-            return None;
-        }
-        value = next as u32;
+        value = value.checked_mul(10)?.checked_add(u16::from(*c - b'0'))?;
     }
     Some(value)
 }

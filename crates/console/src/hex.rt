@@ -8,13 +8,11 @@ use std::alloc::{AllocError, Global};
 fn digit_of(c: u8) -> Option<u8>
     ensures { result ≡ digit_of c }
 {
-    if 48 <= c && c <= 57 {
-        return Some(c - 48);
+    match c {
+        b'0'..=b'9' => Some(c - b'0'),
+        b'a'..=b'f' => Some(c - b'a' + 10),
+        _ => None,
     }
-    if 97 <= c && c <= 102 {
-        return Some(c - 87);
-    }
-    None
 }
 
 fn byte_of(high: u8, low: u8) -> Option<u8>
@@ -29,13 +27,10 @@ fn byte_of(high: u8, low: u8) -> Option<u8>
 fn next_byte(text: &[u8]) -> Option<(u8, &[u8])>
     ensures { MatchOption result (next_of text.now ≡ None) (λ p. next_of text.now ≡ Some (p.0, p.1.now)) }
 {
-    if text.len() < 3 || text[0] != b' ' {
+    let [b' ', high, low, rest @ ..] = text else {
         return None;
-    }
-    match byte_of(text[1], text[2]) {
-        Some(byte) => Some((byte, &text[3..])),
-        None => None,
-    }
+    };
+    Some((byte_of(*high, *low)?, rest))
 }
 
 // The bytes that a text spells, if it spells any.

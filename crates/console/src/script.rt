@@ -1,6 +1,6 @@
 // A whole script, from standard input to standard output.
 use crate::session::Session;
-use crate::step::{Step, parse};
+use crate::step::{ParseError, Step, parse};
 use std::io;
 use std::io::{BufRead, BufReader, Write};
 
@@ -13,26 +13,29 @@ fn without_end(line: &[u8]) -> &[u8] {
     }
 }
 
+// Prints the line again, behind a mark.
+fn echo(rt: &HostRuntime, mark: &[u8], line: &[u8]) -> io::Result<()> {
+    let mut out = rt.stdout();
+    out.write_all(mark)?;
+    out.write_all(line)?;
+    out.write_all(b"\n")
+}
+
 fn run(rt: &HostRuntime, session: &mut Session, line: &[u8]) -> io::Result<()> {
     let heap = rt.alloc();
-    let mut out = rt.stdout();
-    let step = parse(heap, line)?;
-    if let Ok(Step::Blank) = step {
-        return Ok(());
-    }
-    if let Ok(Step::Comment) = step {
-        out.write_all(line)?;
-        return out.write_all(b"\n");
-    }
-    out.write_all(b"> ")?;
-    out.write_all(line)?;
-    out.write_all(b"\n")?;
-    match step {
+    match parse(heap, line) {
+        Ok(Step::Blank) => Ok(()),
+        Ok(Step::Comment) => echo(rt, b"", line),
         Ok(step) => {
+            echo(rt, b"> ", line)?;
             let text = session.perform(heap, step)?;
-            out.write_all(text.as_bytes())
+            rt.stdout().write_all(text.as_bytes())
         }
-        Err(fault) => println!(rt; "error: {fault}"),
+        Err(ParseError::Fault(fault)) => {
+            echo(rt, b"> ", line)?;
+            println!(rt; "error: {fault}")
+        }
+        Err(ParseError::OutOfMemory(error)) => Err(error.into()),
     }
 }
 

@@ -1,17 +1,15 @@
 // What a line of a script asks for.
-ghost use Rattle.std.specs.Prelude.{◌≡◌, ◌++◌, IfOk, Decides, MatchOption};
+ghost use Rattle.std.specs.Prelude.{◌≡◌, MatchOption};
 ghost use Rattle.std.specs.Result.{result_ok};
 ghost use Rattle.console.specs.Decimal.{number_of};
-ghost use Rattle.console.specs.Steps.{Asked, AsksFor, Lacks, NoWord, Wordless, blank, most};
+ghost use Rattle.console.specs.Steps.{AsksFor, NoWord, Parsed, Wordless, blank, most};
+ghost use Rattle.console.specs.declared.step.ParseError.TheVariants as error;
 
 use crate::decimal::number_of;
 use crate::hex::bytes_of;
 use line::Call;
 use std::alloc::{AllocError, Global};
 use std::fmt;
-
-// The largest token, and the most room.
-const MOST: u32 = 65535;
 
 #[derive(Drop)]
 pub enum Step {
@@ -33,7 +31,7 @@ pub enum Fault {
     UnknownCommand,
     NoBytes,
     // The operand is no number, or above this one.
-    NoNumber(u32),
+    NoNumber(u16),
 }
 
 impl fmt::Display for Fault {
@@ -49,106 +47,90 @@ impl fmt::Display for Fault {
     }
 }
 
+// Why no step is taken from a line.
+#[derive(Drop)]
+pub(crate) enum ParseError {
+    Fault(Fault),
+    OutOfMemory(AllocError),
+}
+
+impl From<Fault> for ParseError {
+    ghost from_gives = { λ f e. e ≡ error.Fault f };
+
+    fn from(fault: Fault) -> ParseError {
+        ParseError::Fault(fault)
+    }
+}
+
+impl From<AllocError> for ParseError {
+    ghost from_gives = { λ a e. e ≡ error.OutOfMemory a };
+
+    fn from(error: AllocError) -> ParseError {
+        ParseError::OutOfMemory(error)
+    }
+}
+
 // A line is blank if it has no byte but spaces and tabs.
 fn is_blank(line: &[u8]) -> bool
     ensures { result ≡ blank line.now }
 {
-    for c in line {
-        if *c != b' ' && *c != b'\t' {
-            return false;
-        }
-    }
-    true
-}
-
-// What stands behind the word at the front of the line, if the line begins with it.
-fn behind<'a>(line: &'a [u8], word: &'a [u8]) -> Option<&'a [u8]>
-    ensures { MatchOption result (Lacks word.now line.now) (λ t. line.now ≡ word.now ++ t.now) }
-{
-    line.strip_prefix(word)
-}
-
-fn is(line: &[u8], word: &[u8]) -> bool
-    ensures { Decides result (line.now ≡ word.now) }
-{
-    line == word
+    line.iter().all(|c| matches!(*c, b' ' | b'\t'))
 }
 
 // The command of a word that stands alone.
 fn parse_word(line: &[u8]) -> Option<Step>
     ensures { MatchOption result (NoWord line.now) (λ t. AsksFor line.now t) }
 {
-    if is(line, b"grammar") {
-        return Some(Step::Grammar);
+    match line {
+        b"grammar" => Some(Step::Grammar),
+        b"rub" => Some(Step::Call(Call::Rub)),
+        b"wipe" => Some(Step::Call(Call::Wipe)),
+        b"seal" => Some(Step::Call(Call::Seal)),
+        b"reopen" => Some(Step::Call(Call::Reopen)),
+        _ => None,
     }
-    if is(line, b"rub") {
-        return Some(Step::Call(Call::Rub));
-    }
-    if is(line, b"wipe") {
-        return Some(Step::Call(Call::Wipe));
-    }
-    if is(line, b"seal") {
-        return Some(Step::Call(Call::Seal));
-    }
-    if is(line, b"reopen") {
-        return Some(Step::Call(Call::Reopen));
-    }
-    None
 }
 
 // The operand of `key` and of `room`.
 fn number(text: &[u8]) -> Result<u16, Fault>
     ensures { result_ok result ≡ number_of most text.now }
 {
-    match number_of(text, MOST) {
-        Some(number) => Ok(number as u16),
-        None => Err(Fault::NoNumber(MOST)),
-    }
+    number_of(text).ok_or(Fault::NoNumber(u16::MAX))
 }
 
 // A command with operands: its word, and what stands behind it.
-fn parse_operands(heap: Global, line: &[u8]) -> Result<Result<Step, Fault>, AllocError>
+fn parse_operands(heap: Global, line: &[u8]) -> Result<Step, ParseError>
     requires { Wordless line.now }
-    ensures { IfOk result (λ p. Asked line.now p) }
+    ensures { Parsed line.now result }
 {
-    if let Some(text) = behind(line, b"pack") {
-        return match bytes_of(heap, text)? {
-            Some(bytes) => Ok(Ok(Step::Pack(bytes))),
-            None => Ok(Err(Fault::NoBytes)),
-        };
+    if let Some(text) = line.strip_prefix(b"pack") {
+        let bytes = bytes_of(heap, text)?.ok_or(Fault::NoBytes)?;
+        return Ok(Step::Pack(bytes));
     }
-    if let Some(text) = behind(line, b"replay") {
-        return match bytes_of(heap, text)? {
-            Some(bytes) => Ok(Ok(Step::Replay(bytes))),
-            None => Ok(Err(Fault::NoBytes)),
-        };
+    if let Some(text) = line.strip_prefix(b"replay") {
+        let commands = bytes_of(heap, text)?.ok_or(Fault::NoBytes)?;
+        return Ok(Step::Replay(commands));
     }
-    if let Some(text) = behind(line, b"key ") {
-        return match number(text) {
-            Ok(token) => Ok(Ok(Step::Call(Call::Key(token)))),
-            Err(fault) => Ok(Err(fault)),
-        };
+    if let Some(text) = line.strip_prefix(b"key ") {
+        return Ok(Step::Call(Call::Key(number(text)?)));
     }
-    if let Some(text) = behind(line, b"room ") {
-        return match number(text) {
-            Ok(room) => Ok(Ok(Step::Room(room))),
-            Err(fault) => Ok(Err(fault)),
-        };
+    if let Some(text) = line.strip_prefix(b"room ") {
+        return Ok(Step::Room(number(text)?));
     }
-    Ok(Err(Fault::UnknownCommand))
+    Err(ParseError::Fault(Fault::UnknownCommand))
 }
 
-pub(crate) fn parse(heap: Global, line: &[u8]) -> Result<Result<Step, Fault>, AllocError>
-    ensures { IfOk result (λ p. Asked line.now p) }
+pub(crate) fn parse(heap: Global, line: &[u8]) -> Result<Step, ParseError>
+    ensures { Parsed line.now result }
 {
     if is_blank(line) {
-        return Ok(Ok(Step::Blank));
+        return Ok(Step::Blank);
     }
-    if let Some(_) = behind(line, b"#") {
-        return Ok(Ok(Step::Comment));
+    if line.starts_with(b"#") {
+        return Ok(Step::Comment);
     }
-    if let Some(step) = parse_word(line) {
-        return Ok(Ok(step));
+    match parse_word(line) {
+        Some(step) => Ok(step),
+        None => parse_operands(heap, line),
     }
-    parse_operands(heap, line)
 }

@@ -1,6 +1,7 @@
 // The texts that the console prints.
-ghost use Rattle.std.specs.Prelude.{◌≡◌, [], ◌++◌, map, length, IfOk, if◌then◌else◌, Err, string_bytes, OnOk, nat_eq};
+ghost use Rattle.std.specs.Prelude.{◌≡◌, ℕ, List, [], ◌++◌, length, IfOk, if◌then◌else◌, Err, string_bytes, OnOk, nat_eq};
 ghost use Rattle.replay.specs.Replays.{replay_of};
+ghost use Rattle.console.specs.Lists.{Appends};
 ghost use Rattle.console.specs.Texts.{argument_text, category_text, constituent_text, content_text, counts_text, figure_text, grammar_text, head_text, kind_text, layer_text, listed, no_pack, pack_text, played_text, production_text, reply_text, room_text, start_text, stop_text, symbol_text, token_text, tokens_text};
 ghost use Rattle.grammar.specs.Entries.{entries};
 ghost use Rattle.grammar.specs.Held.{production_model};
@@ -31,33 +32,16 @@ pub(crate) fn stop_line(heap: Global, stop: &PackStop) -> Result<String, AllocEr
     format!(in heap; "stop {number} figure {figure} layer {layer}\n")
 }
 
-fn counts_line(
-    heap: Global,
-    kind: u8,
-    categories: usize,
-    start: u8,
-    productions: usize,
-) -> Result<String, AllocError>
-    ensures { IfOk result (λ s. string_bytes s ≡ counts_text kind categories start productions) }
-{
-    format!(in heap;
-        "pack kind {kind} categories {categories} start {start} productions {productions}\n"
-    )
-}
-
 pub(crate) fn pack_line(heap: Global, grammar: &Grammar) -> Result<String, AllocError>
     ensures { IfOk result (λ s. string_bytes s ≡ pack_text (model grammar.now)) }
 {
+    let kind = grammar.kind();
     let categories = grammar.dimensions().len();
+    let start = grammar.start();
     let productions = grammar.productions().len();
-    let line = counts_line(
-        heap,
-        grammar.kind(),
-        categories,
-        grammar.start(),
-        productions,
-    )?;
-    Ok(line)
+    format!(in heap;
+        "pack kind {kind} categories {categories} start {start} productions {productions}\n"
+    )
 }
 
 // What stands before entry i of a list: nothing before the first.
@@ -67,31 +51,33 @@ fn separator(i: usize, text: &'static str) -> &'static str
     if i == 0 { "" } else { text }
 }
 
-fn push_symbol(heap: Global, out: &mut String, symbol: Symbol) -> Result<(), AllocError>
-    ensures { OnOk result (string_bytes out.new ≡ string_bytes out.old ++ symbol_text 0 symbol) }
+// Appends the entries of a list, one after another.
+fn push_each<T, F>(out: &mut String, entries: &[T], push: F) -> Result<(), AllocError>
+where
+    F: Fn(&mut String, usize, &T) -> Result<(), AllocError>,
+    requires { F.IsAlwaysCallable push }
+    ensures { (spell : ℕ → T → List ℕ) → Appends (F.post push) spell → OnOk result (string_bytes out.new ≡ string_bytes out.old ++ listed spell 0 entries.now) }
 {
-    let text = match symbol {
-        Symbol::Token(token) => format!(in heap; " {token}")?,
-        Symbol::Part {
-            argument,
-            constituent,
-        } => format!(in heap; " <{argument};{constituent}>")?,
-    };
-    out.push_str(text.as_str())
-}
-
-fn push_symbols(heap: Global, out: &mut String, symbols: &[Symbol]) -> Result<(), AllocError>
-    ensures { OnOk result (string_bytes out.new ≡ string_bytes out.old ++ listed symbol_text 0 symbols.now) }
-{
-    for symbol in symbols {
-        push_symbol(heap, out, *symbol)?;
+    for (i, entry) in entries.iter().enumerate() {
+        push(out, i, entry)?;
     }
     Ok(())
 }
 
+fn push_symbol(out: &mut String, i: usize, symbol: &Symbol) -> Result<(), AllocError>
+    ensures { OnOk result (string_bytes out.new ≡ string_bytes out.old ++ symbol_text i symbol.now) }
+{
+    match *symbol {
+        Symbol::Token(token) => write!(out, " {token}"),
+        Symbol::Part {
+            argument,
+            constituent,
+        } => write!(out, " <{argument};{constituent}>"),
+    }
+}
+
 // A stroke stands between two constituents.
 fn push_constituent(
-    heap: Global,
     out: &mut String,
     i: usize,
     constituent: &Row<Symbol, 8>,
@@ -99,131 +85,52 @@ fn push_constituent(
     ensures { OnOk result (string_bytes out.new ≡ string_bytes out.old ++ constituent_text i (entries constituent.now)) }
 {
     out.push_str(separator(i, " /"))?;
-    push_symbols(heap, out, constituent.items())?;
-    Ok(())
-}
-
-fn push_constituents(
-    heap: Global,
-    out: &mut String,
-    constituents: &[Row<Symbol, 8>],
-) -> Result<(), AllocError>
-    ensures { OnOk result (string_bytes out.new ≡ string_bytes out.old ++ listed constituent_text 0 (map entries constituents.now)) }
-{
-    for (i, constituent) in constituents.iter().enumerate() {
-        push_constituent(heap, out, i, constituent)?;
-    }
-    Ok(())
+    push_each(out, constituent.items(), push_symbol)
 }
 
 // A space stands between two arguments.
-fn push_argument(heap: Global, out: &mut String, i: usize, argument: u8) -> Result<(), AllocError>
-    ensures { OnOk result (string_bytes out.new ≡ string_bytes out.old ++ argument_text i argument) }
+fn push_argument(out: &mut String, i: usize, argument: &u8) -> Result<(), AllocError>
+    ensures { OnOk result (string_bytes out.new ≡ string_bytes out.old ++ argument_text i argument.now) }
 {
     let between = separator(i, " ");
-    let text = format!(in heap; "{between}{argument}")?;
-    out.push_str(text.as_str())
+    write!(out, "{between}{argument}")
 }
 
-fn push_arguments(heap: Global, out: &mut String, arguments: &[u8]) -> Result<(), AllocError>
-    ensures { OnOk result (string_bytes out.new ≡ string_bytes out.old ++ listed argument_text 0 arguments.now) }
-{
-    for (i, argument) in arguments.iter().enumerate() {
-        push_argument(heap, out, i, *argument)?;
-    }
-    Ok(())
-}
-
-fn head_line(heap: Global, i: usize, category: u8, weight: u16) -> Result<String, AllocError>
-    ensures { IfOk result (λ s. string_bytes s ≡ head_text i category weight) }
-{
-    format!(in heap; "production {i}: {category} <- {weight} [")
-}
-
-fn push_production(
-    heap: Global,
-    out: &mut String,
-    i: usize,
-    production: &Production,
-) -> Result<(), AllocError>
+fn push_production(out: &mut String, i: usize, production: &Production) -> Result<(), AllocError>
     ensures { OnOk result (string_bytes out.new ≡ string_bytes out.old ++ production_text i (production_model production.now)) }
 {
-    let head = head_line(heap, i, production.category(), production.weight())?;
-    out.push_str(head.as_str())?;
-    push_arguments(heap, out, production.arguments())?;
+    let category = production.category();
+    let weight = production.weight();
+    write!(out, "production {i}: {category} <- {weight} [")?;
+    push_each(out, production.arguments(), push_argument)?;
     out.push_str("]")?;
-    push_constituents(heap, out, production.constituents())?;
-    out.push_str("\n")?;
-    Ok(())
+    push_each(out, production.constituents(), push_constituent)?;
+    writeln!(out)
 }
 
-fn push_productions(
-    heap: Global,
-    out: &mut String,
-    productions: &[Production],
-) -> Result<(), AllocError>
-    ensures { OnOk result (string_bytes out.new ≡ string_bytes out.old ++ listed production_text 0 (map production_model productions.now)) }
+fn push_category(out: &mut String, i: usize, dimension: &u8) -> Result<(), AllocError>
+    ensures { OnOk result (string_bytes out.new ≡ string_bytes out.old ++ category_text i dimension.now) }
 {
-    for (i, production) in productions.iter().enumerate() {
-        push_production(heap, out, i, production)?;
-    }
-    Ok(())
-}
-
-fn push_category(heap: Global, out: &mut String, i: usize, dimension: u8) -> Result<(), AllocError>
-    ensures { OnOk result (string_bytes out.new ≡ string_bytes out.old ++ category_text i dimension) }
-{
-    let text = format!(in heap; "category {i} dimension {dimension}\n")?;
-    out.push_str(text.as_str())
-}
-
-fn push_categories(heap: Global, out: &mut String, dimensions: &[u8]) -> Result<(), AllocError>
-    ensures { OnOk result (string_bytes out.new ≡ string_bytes out.old ++ listed category_text 0 dimensions.now) }
-{
-    for (i, dimension) in dimensions.iter().enumerate() {
-        push_category(heap, out, i, *dimension)?;
-    }
-    Ok(())
-}
-
-fn kind_line(heap: Global, kind: u8) -> Result<String, AllocError>
-    ensures { IfOk result (λ s. string_bytes s ≡ kind_text kind) }
-{
-    format!(in heap; "kind {kind}\n")
-}
-
-fn start_line(heap: Global, start: u8) -> Result<String, AllocError>
-    ensures { IfOk result (λ s. string_bytes s ≡ start_text start) }
-{
-    format!(in heap; "start {start}\n")
+    writeln!(out, "category {i} dimension {dimension}")
 }
 
 // The held grammar, a line for each of its parts.
 pub(crate) fn grammar_lines(heap: Global, grammar: &Grammar) -> Result<String, AllocError>
     ensures { IfOk result (λ s. string_bytes s ≡ grammar_text (model grammar.now)) }
 {
-    let mut out = kind_line(heap, grammar.kind())?;
-    push_categories(heap, &mut out, grammar.dimensions())?;
-    let start = start_line(heap, grammar.start())?;
-    out.push_str(start.as_str())?;
-    push_productions(heap, &mut out, grammar.productions())?;
+    let kind = grammar.kind();
+    let start = grammar.start();
+    let mut out = format!(in heap; "kind {kind}\n")?;
+    push_each(&mut out, grammar.dimensions(), push_category)?;
+    writeln!(out, "start {start}")?;
+    push_each(&mut out, grammar.productions(), push_production)?;
     Ok(out)
 }
 
-fn push_token(heap: Global, out: &mut String, token: u16) -> Result<(), AllocError>
-    ensures { OnOk result (string_bytes out.new ≡ string_bytes out.old ++ token_text 0 token) }
+fn push_token(out: &mut String, i: usize, token: &u16) -> Result<(), AllocError>
+    ensures { OnOk result (string_bytes out.new ≡ string_bytes out.old ++ token_text i token.now) }
 {
-    let text = format!(in heap; " {token}")?;
-    out.push_str(text.as_str())
-}
-
-fn push_tokens(heap: Global, out: &mut String, tokens: &[u16]) -> Result<(), AllocError>
-    ensures { OnOk result (string_bytes out.new ≡ string_bytes out.old ++ listed token_text 0 tokens.now) }
-{
-    for token in tokens {
-        push_token(heap, out, *token)?;
-    }
-    Ok(())
+    write!(out, " {token}")
 }
 
 // A word, and the tokens behind it.
@@ -231,8 +138,8 @@ pub(crate) fn tokens_line(heap: Global, word: &str, tokens: &[u16]) -> Result<St
     ensures { IfOk result (λ s. string_bytes s ≡ tokens_text word.now tokens.now) }
 {
     let mut out = String::from_str(heap, word)?;
-    push_tokens(heap, &mut out, tokens)?;
-    out.push_str("\n")?;
+    push_each(&mut out, tokens, push_token)?;
+    writeln!(out)?;
     Ok(out)
 }
 

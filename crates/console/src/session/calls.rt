@@ -79,8 +79,7 @@ impl Session {
         match &self.grammar {
             Some(grammar) => {
                 let mut output = vec![in heap; 0; self.room as usize]?;
-                let text = played_line(heap, grammar, commands, &mut output)?;
-                Ok(text)
+                played_line(heap, grammar, commands, &mut output)
             }
             None => no_pack_line(heap),
         }
@@ -92,28 +91,12 @@ impl Session {
         ensures state { OnOk result (state_of self.new ≡ state_after (state_of self.old) step) }
     {
         match step {
-            Step::Blank => Ok(String::new(heap)),
-            Step::Comment => Ok(String::new(heap)),
-            Step::Pack(bytes) => {
-                let text = self.pack(heap, bytes.as_slice())?;
-                Ok(text)
-            }
-            Step::Grammar => {
-                let text = self.grammar(heap)?;
-                Ok(text)
-            }
-            Step::Room(room) => {
-                let text = self.lend_room(heap, room)?;
-                Ok(text)
-            }
-            Step::Replay(commands) => {
-                let text = self.replay(heap, commands.as_slice())?;
-                Ok(text)
-            }
-            Step::Call(call) => {
-                let text = self.call(heap, call)?;
-                Ok(text)
-            }
+            Step::Blank | Step::Comment => Ok(String::new(heap)),
+            Step::Pack(bytes) => self.pack(heap, bytes.as_slice()),
+            Step::Grammar => self.grammar(heap),
+            Step::Room(room) => self.lend_room(heap, room),
+            Step::Replay(commands) => self.replay(heap, commands.as_slice()),
+            Step::Call(call) => self.call(heap, call),
         }
     }
 }

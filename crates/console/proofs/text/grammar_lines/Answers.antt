@@ -1,23 +1,12 @@
-use Rattle.std.proofs.Common.{◌≡◌, ℕ, List, ◌++◌, string_bytes, ap, ◌∙◌, ap₂, append_assoc}
-use Rattle.grammar.specs.Model.{model}
-use Rattle.console.specs.Texts.{listed, category_text, production_text, kind_text, start_text}
+use Rattle.std.proofs.Common.{◌++◌, string_bytes, rules, ap, ◌∙◌, append_assoc}
+use Rattle.grammar.specs.Held.{production_model}
+use Rattle.console.specs.Texts.{category_text, production_text}
+use Rattle.console.proofs.Listing.{listed_map}
 use Rattle.console.proofs.text.grammar_lines.Goals as goal
-
-regroup : (a b c d : List ℕ) → ((a ++ b) ++ c) ++ d ≡ a ++ (b ++ (c ++ d))
-regroup a b c d = simp append_assoc
 
 pub returns : goal.returns
 returns c =
-    let m = model c.args.grammar.now in
-    let kind = kind_text m.kind in
-    let categories = listed category_text 0 m.dimensions in
-    let start = start_text m.start in
-    let productions = listed production_text 0 m.productions in
-    let e1 : string_bytes c.in_ok-out.out ≡ kind = c.in_ok-out.ensures ∙ ap kind_text c.kind.ensures in
-    let e2 : string_bytes c.push_categories.new.out ≡ kind ++ categories =
-    c.in_ok-push_categories.ensures ∙ ap₂ (λ a ds. a ++ listed category_text 0 ds) e1 c.dimensions.ensures in
-    let e3 : string_bytes c.push_str.new.self ≡ (kind ++ categories) ++ start =
-    c.in_ok-push_str.ensures.bytes
-    ∙ ap₂ (λ a b. a ++ b) e2 (c.as_str.ensures.value ∙ c.in_ok-start.ensures ∙ ap start_text c.start.ensures) in
-    c.in_ok-push_productions.ensures ∙ ap₂ (λ a b. a ++ b) e3 (ap (listed production_text 0) c.productions.ensures)
-    ∙ regroup kind categories start productions
+    let categories = c.in_ok-push_each.ensures category_text (λ out i x r after post. search rules) in
+    let productions = c.in_ok-push_each-2.ensures (λ i p. production_text i (production_model p)) (λ out i x r after post. search rules) in
+    productions ∙ ap (λ t. string_bytes c.writeln.new.self ++ t) (listed_map production_text production_model 0 c.productions.result.now)
+    ∙ search (rules, append_assoc, categories)

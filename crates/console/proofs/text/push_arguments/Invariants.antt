@@ -1,8 +1,0 @@
-use Rattle.std.proofs.Common.{◌≡◌, ◌++◌, drop, string_bytes}
-use Rattle.console.specs.Texts.{listed, argument_text}
-use Rattle.console.proofs.text.push_arguments.Given as goal
-
--- what is printed, in front of what is to come
-abbrev pub invariant-loop-i : goal.invariant-loop-i
-invariant-loop-i l =
-    string_bytes l.out ++ listed argument_text l.i (drop l.i l.arguments) ≡ string_bytes l.initial.out ++ listed argument_text 0 l.arguments
