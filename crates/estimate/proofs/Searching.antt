@@ -4,7 +4,7 @@ use native.Mathlib.Decide.{ℕ_discrete}
 use Rattle.std.specs.List.{ContainsAt as Has}
 use Rattle.weight.specs.Algebra.{Algebra, Lawful, Le, Within}
 use Rattle.weight.proofs.Orders.{le_first, le_trans, lt_le, le_lt, lt_le_lt, cases, plus_none}
-use Rattle.std.proofs.lemmas.List.{get_or-replicate, get_or_past, length-map, length-replicate, length-append, nil_from_length, append-nil}
+use Rattle.std.proofs.lemmas.List.{get_or-replicate, get_or_past, length-map, length-replicate, length-append, nil_from_length, append-nil, append_assoc}
 use Rattle.std.proofs.lemmas.Bool.{cases_lt}
 use Rattle.agenda.specs.declared.agenda.Agenda.{Agenda}
 use Rattle.agenda.specs.Agendas.{Taken, Sound, room, entries, cells_of}
@@ -57,9 +57,16 @@ module _ {A : Algebra} (laws : Lawful A) {W : Type 0} (exact : W → A.Exact) (n
         | Some u ↦ λ k. (each_push (λ p. Open A exact nothing row p → ⊥) ps x so_far.0 shut, k ∙ same)
       ] h
 
+module _ {A : Algebra} (laws : Lawful A) {W : Type 0} (exact : W → A.Exact) (nothing : W) (row : List W) (price : A.Exact) where
   -- no premise yet
   pub with_price : (w : W) → exact w ≡ price → Weighed A exact nothing row price [] (Some w)
   with_price w e = (tt, e ∙ sym (plus_none laws price))
+
+  -- what is nothing with some is nothing with more
+  pub with_more : (ps qs : List ℕ) → Weighed A exact nothing row price ps None → Weighed A exact nothing row price (ps ++ qs) None
+  with_more ps [] h = subst (λ xs. Weighed A exact nothing row price xs None) (sym (append-nil ps)) h
+  with_more ps (q ∷ qs) h =
+      subst (λ xs. Weighed A exact nothing row price xs None) (append_assoc ps (q ∷ []) qs) (with_more (ps ++ q ∷ []) qs (with_nothing laws exact nothing row price ps q h))
 
 -- ---- rules and turns
 module _ {A : Algebra} (laws : Lawful A) {W : Type 0} (exact : W → A.Exact) (nothing : W) (n : ℕ) (gives : ℕ → Option (Rule W) → Type 0)

@@ -16,14 +16,10 @@ use Rattle.estimate.specs.Weighing.{categories}
 use Rattle.estimate.specs.Estimates.{AllLightest, together, Sound}
 use Rattle.estimate.specs.Chains.{Chain, begin, step, way, ChainStep, LightestChain}
 use Rattle.estimate.specs.Settling.{listed, cost_at, both, all_of, settled, capped, light, step_rule, chain_rule, category_weight}
-use Rattle.estimate.specs.TreeRulesLemmas.{premises_listed, production_formed}
+use Rattle.estimate.specs.TreeRulesLemmas.{production_formed}
 use Rattle.estimate.specs.Settle.{either, some_none, settled_all}
 use Rattle.estimate.specs.LightWeights.{within_is, all_some, all_found}
-use Rattle.estimate.specs.ChainRules.{way_start, way_other, chain_of, der_of, of_third}
-
-pub way_listed : (m : GrammarModel) (a : ℕ) → premises_of (listed (way m a)) ≡ way m a
-way_listed m a =
-    premises_listed (way m a) (elim (cases_eq a m.start) [ inl p ↦ omega (arith, ap length (way_start m a p)) | inr ne ↦ omega (arith, ap length (way_other m a ne)) ])
+use Rattle.estimate.specs.ChainRules.{chain_of, der_of, of_third}
 
 module _ {A : Algebra} (laws : Lawful A) (m : GrammarModel) where
   -- there is one such weight
@@ -99,7 +95,7 @@ module _ {A : Algebra} (laws : Lawful A) (m : GrammarModel) where
                       fellows = found.1;
                       away = away;
                       result = refl;
-                      premises = way_listed m (production m p).category;
+                      premises = refl;
                       price = ap (A.plus taken) found.2;
                     })
               ]
@@ -122,7 +118,7 @@ module _ {A : Algebra} (laws : Lawful A) (m : GrammarModel) where
         let given : chain_rule A m (3 * p + i) ≡ Some (made p i (A.plus (taken p i) (together A ws))) =
         (λ j. step_rule A m (third.0 j) (third.1 j)) ∙ step_is p i argument away (together A ws) (all_some laws m formed (but i (arguments p i)) ws fell) in
         let few' : i < 3 = omega (arith, few) in
-        inl ((3 * p + i, made p i (A.plus (taken p i) (together A ws)), omega arith, given), refl, way_listed m (production m p).category, refl)
+        inl ((3 * p + i, made p i (A.plus (taken p i) (together A ws)), omega arith, given), refl, refl, refl)
 
     pub category_is : (c : ℕ) → LightestChain A m c (category_weight A m c)
     unfolding category_weight

@@ -1,5 +1,5 @@
 -- Steps read from a grammar and a row of lightest weights. Assumes nothing.
-use Rattle.std.specs.Prelude.{◌≡◌, ℕ, zero, suc, ◌+◌, ◌-◌, ◌*◌, ◌/◌, ◌%◌, ◌<◌, ◌⊎◌, List, [], ◌∷◌, length, Some, None, Option, ◌≢◌, slice_index, refl}
+use Rattle.std.specs.Prelude.{◌≡◌, ℕ, zero, suc, ◌+◌, ◌*◌, ◌/◌, ◌%◌, ◌<◌, ◌⊎◌, List, [], ◌∷◌, length, Some, None, Option, ◌≢◌, slice_index, remove, refl}
 use Rattle.std.proofs.Common.{sym, ap, subst, subst₂, ◌∙◌, inl, inr, arith}
 use Rattle.std.proofs.lemmas.Bool.{cases_eq}
 use Rattle.weight.specs.Algebra.{Algebra, Lawful, Le}
@@ -18,43 +18,13 @@ use Rattle.estimate.specs.Settling.{listed}
 use Rattle.estimate.specs.TreeRulesLemmas.{same_premises, production_formed}
 use Rattle.estimate.specs.LightWeights.{one_lightest, not_both, all_one, tree_above}
 use Rattle.estimate.specs.ChainRules.{way_start, way_other, of_third}
-use Rattle.estimate.specs.CategoryWeights.{way_listed}
 
 -- ---- all arguments but one
-pub but_one : (xs : List ℕ) (i : ℕ) → length xs ≡ 1 → i < length xs → [] ≡ but i xs
-but_one [] i h l = absurd (omega arith)
-but_one (a ∷ []) zero h l = refl
-but_one (a ∷ []) (suc i) h l = absurd (omega arith)
-but_one (a ∷ b ∷ xs) i h l = absurd (omega arith)
-
-pub but_two : (xs : List ℕ) (i : ℕ) → length xs ≡ 2 → i < length xs → slice_index xs (1 - i) ∷ [] ≡ but i xs
-but_two [] i h l = absurd (omega arith)
-but_two (a ∷ []) i h l = absurd (omega arith)
-but_two (a ∷ b ∷ []) zero h l = refl
-but_two (a ∷ b ∷ []) (suc zero) h l = refl
-but_two (a ∷ b ∷ []) (suc (suc i)) h l = absurd (omega arith)
-but_two (a ∷ b ∷ c ∷ xs) i h l = absurd (omega arith)
-
-pub but_first : (xs : List ℕ) → length xs ≡ 3 → slice_index xs 1 ∷ slice_index xs 2 ∷ [] ≡ but 0 xs
-but_first [] h = absurd (omega arith)
-but_first (a ∷ []) h = absurd (omega arith)
-but_first (a ∷ b ∷ []) h = absurd (omega arith)
-but_first (a ∷ b ∷ c ∷ []) h = refl
-but_first (a ∷ b ∷ c ∷ d ∷ xs) h = absurd (omega arith)
-
-pub but_second : (xs : List ℕ) → length xs ≡ 3 → slice_index xs 0 ∷ slice_index xs 2 ∷ [] ≡ but 1 xs
-but_second [] h = absurd (omega arith)
-but_second (a ∷ []) h = absurd (omega arith)
-but_second (a ∷ b ∷ []) h = absurd (omega arith)
-but_second (a ∷ b ∷ c ∷ []) h = refl
-but_second (a ∷ b ∷ c ∷ d ∷ xs) h = absurd (omega arith)
-
-pub but_third : (xs : List ℕ) → length xs ≡ 3 → slice_index xs 0 ∷ slice_index xs 1 ∷ [] ≡ but 2 xs
-but_third [] h = absurd (omega arith)
-but_third (a ∷ []) h = absurd (omega arith)
-but_third (a ∷ b ∷ []) h = absurd (omega arith)
-but_third (a ∷ b ∷ c ∷ []) h = refl
-but_third (a ∷ b ∷ c ∷ d ∷ xs) h = absurd (omega arith)
+pub remove_but : (xs : List ℕ) (i : ℕ) → remove xs i ≡ but i xs
+remove_but [] zero = refl
+remove_but [] (suc i) = refl
+remove_but (x ∷ xs) zero = refl
+remove_but (x ∷ xs) (suc i) = ap (λ ys. x ∷ ys) (remove_but xs i)
 
 pub but_each : (P : ℕ → Type 0) (xs : List ℕ) (i : ℕ) → Each P xs → Each P (but i xs)
 but_each P [] i h = tt
@@ -144,10 +114,10 @@ module _ {A : Algebra} (laws : Lawful A) {W : Type 0} (exact : W → A.Exact) (m
               fellows = fellows;
               away = away;
               result = refl;
-              premises = way_listed m (production m p).category;
+              premises = refl;
               price = w.1;
             } in
             let given : ChainStep A exact m ((3 * p + i) / 3) ((3 * p + i) % 3) r = (let S : ℕ → ℕ → Type 0 = λ a b. ChainStep A exact m a b r in subst₂ S (sym third.0) (sym third.1) s) in
             let small : i < 3 = omega (arith, few) in
-            inl ((3 * p + i, r, omega arith, given), refl, way_listed m (production m p).category, w.1)
+            inl ((3 * p + i, r, omega arith, given), refl, refl, w.1)
       ]

@@ -13,7 +13,7 @@ use Rattle.estimate.specs.Weighing.{categories, tree_weight, Accepted, Lightest,
 use Rattle.estimate.specs.TreeRules.{TreeRule}
 use Rattle.estimate.specs.Estimates.{AllLightest, together}
 use Rattle.estimate.specs.Settling.{listed, cost_at, both, all_of, settled, tree_rule, within, light}
-use Rattle.estimate.specs.TreeRulesLemmas.{premises_listed, production_formed, tree_of, tree_in, tree_costs, der_of}
+use Rattle.estimate.specs.TreeRulesLemmas.{production_formed, tree_of, tree_in, tree_costs, der_of}
 use Rattle.estimate.specs.Settle.{either, some_none, settled_all}
 
 module _ {A : Algebra} (laws : Lawful A) where
@@ -54,7 +54,7 @@ module _ {A : Algebra} (laws : Lawful A) where
 
     tell : (p : ℕ) (r : Rule A.Exact) → p < length m.productions → gives p (Some r) → TreeRule A (λ e. e) m p (Some r)
     tell p r h e =
-        subst (TreeRule A (λ v. v) m p) e (refl, premises_listed (production m p).arguments (production_formed laws (λ v. v) m formed p h).arguments_most, refl)
+        subst (TreeRule A (λ v. v) m p) e (refl, refl, refl)
 
     rule_for : (p : ℕ) → p < length m.productions → (r : Rule A.Exact) × gives p (Some r)
     rule_for p h = (record { result = (production m p).category; premises = listed (production m p).arguments; price = A.taken (production m p).weight }, refl)

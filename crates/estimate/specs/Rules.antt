@@ -2,19 +2,15 @@
 --   premises_of p            the premises as a list
 --   Inside A exact n r       a rule over the items below n, whose price is above none
 --   system A exact n gives   the deduction system of the rules that gives relates to the numbers below n
-use Rattle.std.specs.Prelude.{ℕ, ◌<◌, List, [], ◌∷◌, Some, Option}
+use Rattle.std.specs.Prelude.{ℕ, ◌<◌, List, [], Some, Option}
+use Rattle.arrayvec.specs.ArrayVec.{ArrayVec}
 use Rattle.weight.specs.Algebra.{Algebra}
 use Rattle.grammar.specs.Formed.{Each}
 use Rattle.deduction.specs.Deduction.{System}
-use Rattle.estimate.specs.declared.rules.Premises.{Premises}
-use Rattle.estimate.specs.declared.rules.Premises.TheVariants.{Nothing, One, Two, Three}
 use Rattle.estimate.specs.declared.rules.Rule.{Rule}
 
-abbrev pub premises_of : Premises → List ℕ
-premises_of Nothing = []
-premises_of (One a) = a ∷ []
-premises_of (Two a b) = a ∷ b ∷ []
-premises_of (Three a b c) = a ∷ b ∷ c ∷ []
+abbrev pub premises_of : ArrayVec ℕ → List ℕ
+premises_of p = p.items
 
 -- Its items are below n, and its price is above none.
 pub record Inside (A : Algebra) {W : Type 0} (exact : W → A.Exact) (n : ℕ) (r : Rule W) : Type 0 where

@@ -1,17 +1,16 @@
 -- The lightest weights and the lightest chains as functions of the grammar: as many times as there are categories, settle the cheapest that a rule gives. Assumes nothing.
 --   cost_at es x             what x was settled at
 --   settled A n rule t es    t times the cheapest settled that the rules below n give
---   listed xs                the first three of a list, as premises
+--   listed xs                a list as premises
 --   light A m c              the lightest weight of c, if there is one
 --   category_weight A m c    the lightest chain from the start to c, or the ceiling; category_own is the value that holds it
 use Rattle.std.specs.Prelude.{ℕ, zero, suc, ◌*◌, ◌/◌, ◌%◌, cond, List, [], ◌∷◌, length, Some, None, Option, ◌==◌, nat_lt, slice_index}
 use Rattle.std.proofs.Common.{inl, inr}
+use Rattle.arrayvec.specs.ArrayVec.{ArrayVec}
 use Rattle.weight.specs.Algebra.{Algebra}
 use Rattle.grammar.specs.Grammars.{GrammarModel, production}
 use Rattle.deduction.specs.Deduction.{but}
 use Rattle.estimate.specs.declared.entry.Entry.{Entry}
-use Rattle.estimate.specs.declared.rules.Premises.{Premises}
-use Rattle.estimate.specs.declared.rules.Premises.TheVariants.{Nothing, One, Two, Three}
 use Rattle.estimate.specs.declared.rules.Rule.{Rule}
 use Rattle.estimate.specs.Entries.{cheaper}
 use Rattle.estimate.specs.Rules.{premises_of}
@@ -59,12 +58,9 @@ module _ (A : Algebra) (n : ℕ) (rule : ℕ → Option (Rule A.Exact)) where
   settled zero es = es
   settled (suc t) es = elim (cheapest es n) [ None ↦ es | Some e ↦ settled t (e ∷ es) ]
 
--- The first three of a list, as premises.
-abbrev pub listed : List ℕ → Premises
-listed [] = Nothing
-listed (a ∷ []) = One a
-listed (a ∷ b ∷ []) = Two a b
-listed (a ∷ b ∷ c ∷ xs) = Three a b c
+-- A list as premises.
+abbrev pub listed : List ℕ → ArrayVec ℕ
+listed xs = record { items = xs }
 
 -- Production p as a rule: it gives its category from its arguments.
 abbrev pub tree_rule : (A : Algebra) → GrammarModel → ℕ → Option (Rule A.Exact)

@@ -1,7 +1,8 @@
 -- Productions as rules, and that their derivations are the trees. Assumes nothing.
-use Rattle.std.specs.Prelude.{◌≡◌, ℕ, ◌<◌, ◌≤◌, List, [], ◌∷◌, map, length, get_or, Some, None, Option, slice_index, slice_index_or, refl}
+use Rattle.std.specs.Prelude.{◌≡◌, ℕ, ◌<◌, List, [], ◌∷◌, map, length, get_or, Some, None, Option, slice_index_or, refl}
 use Rattle.std.proofs.Common.{sym, ap, subst, ◌∙◌, inl, inr, arith}
 use Rattle.std.proofs.lemmas.List.{get_or-map, length-map}
+use Rattle.arrayvec.specs.ArrayVec.{ArrayVec}
 use Rattle.weight.specs.Algebra.{Algebra, Lawful, Le}
 use Rattle.grammar.specs.declared.production.Production.{Production}
 use Rattle.grammar.specs.Grammars.{ProductionModel, GrammarModel, production, no_production}
@@ -11,8 +12,6 @@ use Rattle.grammar.specs.Trees.{Tree, Forest, node, empty, more, TreeIn, TreesIn
 use Rattle.grammar.proofs.Each.{each_at}
 use Rattle.deduction.specs.Deduction as deduction
 use Rattle.deduction.specs.Deduction.{System, Der, Ders, Derives, DerivesAll, cost, cost_all}
-use Rattle.estimate.specs.declared.rules.Premises.{Premises}
-use Rattle.estimate.specs.declared.rules.Premises.TheVariants.{Nothing, One, Two, Three}
 use Rattle.estimate.specs.declared.rules.Rule.{Rule}
 use Rattle.estimate.specs.Weighing.{categories, tree_weight, Accepted, Light}
 use Rattle.estimate.specs.Rules.{premises_of, Inside, system}
@@ -20,35 +19,9 @@ use Rattle.estimate.specs.Searches.{Solved, at}
 use Rattle.estimate.specs.Settling.{listed}
 use Rattle.estimate.specs.TreeRules.{TreeRule}
 
--- ---- short lists
-pub one_is : (xs : List ℕ) → length xs ≡ 1 → slice_index xs 0 ∷ [] ≡ xs
-one_is [] h = absurd (omega arith)
-one_is (a ∷ []) h = refl
-one_is (a ∷ b ∷ xs) h = absurd (omega arith)
-
-pub two_is : (xs : List ℕ) → length xs ≡ 2 → slice_index xs 0 ∷ slice_index xs 1 ∷ [] ≡ xs
-two_is [] h = absurd (omega arith)
-two_is (a ∷ xs) h = ap (λ ys. a ∷ ys) (one_is xs (omega arith))
-
-pub three_is : (xs : List ℕ) → length xs ≡ 3 → slice_index xs 0 ∷ slice_index xs 1 ∷ slice_index xs 2 ∷ [] ≡ xs
-three_is [] h = absurd (omega arith)
-three_is (a ∷ xs) h = ap (λ ys. a ∷ ys) (two_is xs (omega arith))
-
-listed_premises : (p : Premises) → listed (premises_of p) ≡ p
-listed_premises Nothing = refl
-listed_premises (One a) = refl
-listed_premises (Two a b) = refl
-listed_premises (Three a b c) = refl
-
-pub same_premises : (p q : Premises) → premises_of p ≡ premises_of q → p ≡ q
-same_premises p q e = sym (listed_premises p) ∙ ap listed e ∙ listed_premises q
-
-pub premises_listed : (xs : List ℕ) → length xs ≤ 3 → premises_of (listed xs) ≡ xs
-premises_listed [] h = refl
-premises_listed (a ∷ []) h = refl
-premises_listed (a ∷ b ∷ []) h = refl
-premises_listed (a ∷ b ∷ c ∷ []) h = refl
-premises_listed (a ∷ b ∷ c ∷ d ∷ xs) h = absurd (omega arith)
+-- premises are the same where their lists are
+pub same_premises : (p q : ArrayVec ℕ) → premises_of p ≡ premises_of q → p ≡ q
+same_premises p q e = ap listed e
 
 module _ {A : Algebra} (laws : Lawful A) {W : Type 0} (exact : W → A.Exact) (m : GrammarModel) where
   -- a production has one rule
@@ -79,7 +52,7 @@ module _ {A : Algebra} (laws : Lawful A) {W : Type 0} (exact : W → A.Exact) (m
       rule_of held p h =
           let f = production_formed p h in
           let w = held (A.taken (production m p).weight) (laws.fits (production m p).weight (accepted p h) (omega (arith, f.weight_most))) in
-          (record { result = (production m p).category; premises = listed (production m p).arguments; price = w.0 }, (refl, premises_listed (production m p).arguments f.arguments_most, w.1))
+          (record { result = (production m p).category; premises = listed (production m p).arguments; price = w.0 }, (refl, refl, w.1))
 
   -- ---- rules that are the productions
   module _ (gives : ℕ → Option (Rule W) → Type 0) (tell : (p : ℕ) (r : Rule W) → p < length m.productions → gives p (Some r) → TreeRule A exact m p (Some r))

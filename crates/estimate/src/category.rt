@@ -6,7 +6,7 @@ ghost use Rattle.agenda.specs.Cells.{blank_cell};
 ghost use Rattle.grammar.specs.Grammars.{GrammarModel};
 ghost use Rattle.grammar.specs.Formed.{WellFormed};
 ghost use Rattle.grammar.specs.Model.{model};
-ghost use Rattle.estimate.specs.Weighing.{categories, Accepted, LightestRow};
+ghost use Rattle.estimate.specs.Weighing.{categories};
 ghost use Rattle.estimate.specs.Entries.{blank_entry};
 ghost use Rattle.estimate.specs.Chains.{LightestChain, RowWeight, RaisedBy};
 ghost use Rattle.estimate.specs.Settling.{category_weight, category_own};
@@ -14,13 +14,12 @@ ghost use Rattle.estimate.specs.CategoryWeights.{category_is, chain_sound};
 ghost use Rattle.estimate.specs.CategoryOwn.{own_holds};
 
 use crate::capped::Capped;
-use crate::chains::Chains;
 use crate::entry::Entry;
 use crate::estimate::Estimate;
 use crate::rows::blank_row;
 use crate::search::{search, settled};
+use crate::weighed::WeighedGrammar;
 use agenda::Cell;
-use grammar::Grammar;
 use weight::combining::larger;
 use weight::weight::Weight;
 
@@ -42,44 +41,32 @@ fn row_weight<W: Capped>(chains: &[W], c: usize, start: usize) -> W
     }
 }
 
-fn raise_at<W: Weight>(row: &mut [W], c: usize, w: W)
-    requires { c < length row.old }
-    ensures { row.new ≡ slice_set row.old c (larger W.Weight.algebra W.Weight.exact (slice_index_or row.old c w) w) }
-{
-    row[c] = larger(row[c], w);
-}
-
 // Raises a row by what the estimate has at each category.
 fn raise_by<W: Capped>(row: &mut [W], chains: &[W], start: usize)
     requires { length row.old ≡ length chains.now }
     ensures { RaisedBy W.Weight.algebra W.Weight.exact W.Weight.nothing start chains.now row.old row.new (length row.old) }
 {
-    for c in 0..row.len() {
-        let w = row_weight(chains, c, start);
-        raise_at(row, c, w);
+    for (c, w) in row.iter_mut().enumerate() {
+        *w = larger(*w, row_weight(chains, c, start));
     }
 }
 
 // The raise on rows and an agenda that are as long as there are categories.
 fn raise_whole<W: Capped>(
-    grammar: &Grammar,
+    weighed: &WeighedGrammar<'_, W>,
     row: &mut [W],
-    lightest: &[W],
     spare: &mut [W],
     cells: &mut [Cell<Entry<W>>],
 )
-    requires accepted { Accepted W.Weight.algebra (model grammar.now) }
-    requires row { length row.old ≡ categories (model grammar.now) }
-    requires lightest_long { categories (model grammar.now) ≤ length lightest.now }
-    requires lightest { LightestRow W.Weight.algebra W.Weight.exact (model grammar.now) lightest.now }
-    requires spare { spare.old ≡ replicate (categories (model grammar.now)) W.Weight.nothing }
-    requires cells { length cells.old ≡ categories (model grammar.now) }
-    ensures raised { (c : ℕ) (d : W) → c < categories (model grammar.now) → slice_index_or row.new c d ≡ larger W.Weight.algebra W.Weight.exact (slice_index_or row.old c d) (category_own W.Weight.algebra W.Capped.showing (model grammar.now) c) }
+    requires row { length row.old ≡ categories (model weighed.now.accepted.grammar.now) }
+    requires spare { spare.old ≡ replicate (categories (model weighed.now.accepted.grammar.now)) W.Weight.nothing }
+    requires cells { length cells.old ≡ categories (model weighed.now.accepted.grammar.now) }
+    ensures raised { (c : ℕ) (d : W) → c < categories (model weighed.now.accepted.grammar.now) → slice_index_or row.new c d ≡ larger W.Weight.algebra W.Weight.exact (slice_index_or row.old c d) (category_own W.Weight.algebra W.Capped.showing (model weighed.now.accepted.grammar.now) c) }
     ensures spare { spare.new ≡ spare.old }
-    ensures cells { cells.new ≡ replicate (categories (model grammar.now)) (blank_cell (blank_entry W.Weight.nothing)) }
+    ensures cells { cells.new ≡ replicate (categories (model weighed.now.accepted.grammar.now)) (blank_cell (blank_entry W.Weight.nothing)) }
 {
-    search(&Chains, grammar, lightest, spare, cells);
-    raise_by(row, spare, grammar.start() as usize);
+    search(weighed, spare, cells);
+    raise_by(row, spare, usize::from(weighed.accepted.grammar.start()));
     blank_row(spare);
 }
 
@@ -96,27 +83,18 @@ impl<W: Capped> Estimate<W> for Category {
 
     fn raise(
         &self,
-        grammar: &Grammar,
+        weighed: &WeighedGrammar<'_, W>,
         row: &mut [W],
-        lightest: &[W],
         spare: &mut [W],
         cells: &mut [Cell<Entry<W>>],
     ) {
-        let n = grammar.dimensions().len();
-        raise_whole(
-            grammar,
-            &mut row[0..n],
-            lightest,
-            &mut spare[0..n],
-            &mut cells[0..n],
-        );
+        let n = weighed.accepted.grammar.dimensions().len();
+        raise_whole(weighed, &mut row[..n], &mut spare[..n], &mut cells[..n]);
     }
 }
 
 // What the category estimate has is the weight of a lightest chain: no chain, however long, is lighter, and one weighs as much, or it is the ceiling.
-pub fn category_stands<W: Capped>() -> u8
+pub fn category_stands<W: Capped>()
     ensures exact { (m : GrammarModel) (c : ℕ) → WellFormed m → W.Weight.exact (category_own W.Weight.algebra W.Capped.showing m c) ≡ category_weight W.Weight.algebra m c }
     ensures lightest { (m : GrammarModel) (c : ℕ) → WellFormed m → LightestChain W.Weight.algebra m c (category_weight W.Weight.algebra m c) }
-{
-    0
-}
+{}

@@ -4,14 +4,14 @@ ghost use Rattle.weight.specs.Algebra.{larger};
 ghost use Rattle.grammar.specs.Grammars.{GrammarModel};
 ghost use Rattle.grammar.specs.Formed.{WellFormed};
 ghost use Rattle.grammar.specs.Model.{model};
-ghost use Rattle.estimate.specs.Weighing.{categories, Accepted, LightestRow};
+ghost use Rattle.estimate.specs.Weighing.{categories};
 ghost use Rattle.estimate.specs.Entries.{BlankRow, BlankCells};
 ghost use Rattle.estimate.specs.Estimates.{Sound, Raised};
 ghost use Rattle.estimate.specs.Raises.{none_sound, larger_sound};
 
 use crate::entry::Entry;
+use crate::weighed::WeighedGrammar;
 use agenda::Cell;
-use grammar::Grammar;
 use weight::weight::Weight;
 
 pub trait Estimate<W: Weight> {
@@ -21,21 +21,17 @@ pub trait Estimate<W: Weight> {
     // Leaves at each category the larger of what the row held and its own weight. The spare row and the agenda's cells are lent blank, for the work, and given back blank.
     fn raise(
         &self,
-        grammar: &Grammar,
+        weighed: &WeighedGrammar<'_, W>,
         row: &mut [W],
-        lightest: &[W],
         spare: &mut [W],
         cells: &mut [Cell<Entry<W>>],
     )
-        requires accepted { Accepted W.Weight.algebra (model grammar.now) }
-        requires row { categories (model grammar.now) ≤ length row.old }
-        requires lightest_long { categories (model grammar.now) ≤ length lightest.now }
-        requires lightest { LightestRow W.Weight.algebra W.Weight.exact (model grammar.now) lightest.now }
-        requires spare_long { categories (model grammar.now) ≤ length spare.old }
-        requires spare { BlankRow W.Weight.nothing (categories (model grammar.now)) spare.old }
-        requires cells_long { categories (model grammar.now) ≤ length cells.old }
-        requires cells { BlankCells W.Weight.nothing (categories (model grammar.now)) cells.old }
-        ensures raised { Raised W.Weight.algebra W.Weight.exact (categories (model grammar.now)) (own (model grammar.now)) row.old row.new }
+        requires row { categories (model weighed.now.accepted.grammar.now) ≤ length row.old }
+        requires spare_long { categories (model weighed.now.accepted.grammar.now) ≤ length spare.old }
+        requires spare { BlankRow W.Weight.nothing (categories (model weighed.now.accepted.grammar.now)) spare.old }
+        requires cells_long { categories (model weighed.now.accepted.grammar.now) ≤ length cells.old }
+        requires cells { BlankCells W.Weight.nothing (categories (model weighed.now.accepted.grammar.now)) cells.old }
+        ensures raised { Raised W.Weight.algebra W.Weight.exact (categories (model weighed.now.accepted.grammar.now)) (own (model weighed.now.accepted.grammar.now)) row.old row.new }
         ensures spare { spare.new ≡ spare.old }
         ensures cells { cells.new ≡ cells.old };
 
@@ -54,9 +50,8 @@ impl<W: Weight> Estimate<W> for Null {
 
     fn raise(
         &self,
-        grammar: &Grammar,
+        weighed: &WeighedGrammar<'_, W>,
         row: &mut [W],
-        lightest: &[W],
         spare: &mut [W],
         cells: &mut [Cell<Entry<W>>],
     ) {}
@@ -73,13 +68,12 @@ impl<W: Weight, A: Estimate<W>, B: Estimate<W>> Estimate<W> for Larger<A, B> {
 
     fn raise(
         &self,
-        grammar: &Grammar,
+        weighed: &WeighedGrammar<'_, W>,
         row: &mut [W],
-        lightest: &[W],
         spare: &mut [W],
         cells: &mut [Cell<Entry<W>>],
     ) {
-        self.0.raise(grammar, row, lightest, spare, cells);
-        self.1.raise(grammar, row, lightest, spare, cells);
+        self.0.raise(weighed, row, spare, cells);
+        self.1.raise(weighed, row, spare, cells);
     }
 }

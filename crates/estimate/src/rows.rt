@@ -7,7 +7,8 @@ use weight::weight::Weight;
 pub fn blank_row<W: Weight>(row: &mut [W])
     ensures { row.new ≡ replicate (length row.old) W.Weight.nothing }
 {
-    for i in 0..row.len() {
-        row[i] = W::none();
+    // `fill` clones, and a bound `Copy` does not say what its `clone` gives.
+    for w in row.iter_mut() {
+        *w = W::none();
     }
 }

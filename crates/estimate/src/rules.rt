@@ -1,49 +1,38 @@
 // What a search goes over: rules that give a category from others at a price.
-ghost use Rattle.std.specs.Prelude.{◌≡◌, ℕ, ◌<◌, List, Some, Option};
+ghost use Rattle.std.specs.Prelude.{◌≡◌, ℕ, ◌<◌, Some, Option};
 ghost use Rattle.estimate.specs.declared.rules.Rule.{Rule};
-ghost use Rattle.grammar.specs.Grammars.{GrammarModel};
-ghost use Rattle.grammar.specs.Model.{model};
-ghost use Rattle.estimate.specs.Weighing.{categories};
 ghost use Rattle.estimate.specs.Rules.{Inside};
 
-use grammar::Grammar;
+use arrayvec::ArrayVec;
 use weight::weight::Weight;
 
-#[derive(Clone, Copy)]
-pub enum Premises {
-    Nothing,
-    One(usize),
-    Two(usize, usize),
-    Three(usize, usize, usize),
-}
-
-#[derive(Clone, Copy)]
+// A rule with at most three premises.
+#[derive(Drop)]
 pub struct Rule<W> {
     pub result: usize,
-    pub premises: Premises,
+    pub premises: ArrayVec<usize, 3>,
     pub price: W,
 }
 
-// Rules by number, read from a grammar and a row of lightest weights. A number may have no rule, as where its price would be above the ceiling.
+// Rules by number. A number may have no rule, as where its price would be above the ceiling.
 pub trait Rules<W: Weight> {
-    // What the rules are read from is as it should be.
-    ghost ready: { GrammarModel → List W → Type 0 };
+    // The rules are about the items below this.
+    ghost items: { Self → ℕ };
 
     // How many numbers there are.
-    ghost count: { GrammarModel → ℕ };
+    ghost count: { Self → ℕ };
 
     // What a number gives: a rule or nothing.
-    ghost gives: { GrammarModel → List W → ℕ → Option (Rule W) → Type 0 };
+    ghost gives: { Self → ℕ → Option (Rule W) → Type 0 };
 
-    fn size(&self, grammar: &Grammar) -> usize
-        ensures { result ≡ count (model grammar.now) };
+    fn size(&self) -> usize
+        ensures { result ≡ count self.now };
 
-    fn rule(&self, grammar: &Grammar, lightest: &[W], k: usize) -> Option<Rule<W>>
-        requires ready { ready (model grammar.now) lightest.now }
-        requires within { k < count (model grammar.now) }
-        ensures { gives (model grammar.now) lightest.now k result };
+    fn rule(&self, k: usize) -> Option<Rule<W>>
+        requires { k < count self.now }
+        ensures { gives self.now k result };
 
-    ghost one: { (m : GrammarModel) (low : List W) (k : ℕ) (o : Option (Rule W)) (r : Rule W) → gives m low k o → gives m low k (Some r) → o ≡ Some r };
+    ghost one: { (s : Self) (k : ℕ) (o : Option (Rule W)) (r : Rule W) → gives s k o → gives s k (Some r) → o ≡ Some r };
 
-    ghost inside: { (m : GrammarModel) (low : List W) (k : ℕ) (r : Rule W) → ready m low → k < count m → gives m low k (Some r) → Inside W.Weight.algebra W.Weight.exact (categories m) r };
+    ghost inside: { (s : Self) (k : ℕ) (r : Rule W) → k < count s → gives s k (Some r) → Inside W.Weight.algebra W.Weight.exact (items s) r };
 }

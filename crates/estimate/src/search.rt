@@ -1,19 +1,15 @@
 // The lightest cost of each item that rules give, best first.
-ghost use Rattle.std.specs.Prelude.{◌≡◌, ℕ, ◌<◌, ◌≤◌, List, [], ◌∷◌, ◌++◌, length, replicate, MatchOption, slice_set};
-ghost use Rattle.weight.specs.Algebra.{Algebra};
+ghost use Rattle.std.specs.Prelude.{◌≡◌, ◌<◌, length, replicate, MatchOption, slice_set};
 ghost use Rattle.agenda.specs.Cells.{blank_cell};
 ghost use Rattle.agenda.specs.Agendas.{room, entries, Sound};
 ghost use Rattle.grammar.specs.Formed.{Each};
-ghost use Rattle.grammar.specs.Model.{model};
-ghost use Rattle.estimate.specs.Weighing.{categories};
 ghost use Rattle.estimate.specs.Entries.{cheaper, place, blank_entry};
 ghost use Rattle.estimate.specs.Rules.{premises_of, system};
 ghost use Rattle.estimate.specs.Searches.{at, Open, Weighed, Searching, Closed, Solved, Offered, Considered, AllOffered};
 
 use crate::entry::Entry;
-use crate::rules::{Premises, Rule, Rules};
+use crate::rules::{Rule, Rules};
 use agenda::{Agenda, Cell, Rank, Slotted, blank};
-use grammar::Grammar;
 use std::cmp::Ordering;
 use weight::weight::Weight;
 
@@ -30,32 +26,16 @@ pub fn settled<W: Weight>(row: &[W], x: usize) -> Option<W>
     }
 }
 
-// What has been combined so far, with the weight at x.
-fn with<W: Weight>(so_far: Option<W>, row: &[W], x: usize) -> Option<W>
-    requires { x < length row.now }
-    ensures { (price : W.Weight.algebra.Exact) (ps : List ℕ) → Weighed W.Weight.algebra W.Weight.exact W.Weight.nothing row.now price ps so_far → Weighed W.Weight.algebra W.Weight.exact W.Weight.nothing row.now price (ps ++ x ∷ []) result }
-{
-    let Some(sum) = so_far else {
-        return None;
-    };
-    let Some(more) = settled(row, x) else {
-        return None;
-    };
-    sum.combine(more)
-}
-
 // What the rule gives, where its premises are settled.
 pub fn weigh<W: Weight>(rule: &Rule<W>, row: &[W]) -> Option<W>
     requires { Each (λ p. p < length row.now) (premises_of rule.now.premises) }
     ensures { Weighed W.Weight.algebra W.Weight.exact W.Weight.nothing row.now (W.Weight.exact rule.now.price) (premises_of rule.now.premises) result }
 {
-    let price = Some(rule.price);
-    match rule.premises {
-        Premises::Nothing => price,
-        Premises::One(a) => with(price, row, a),
-        Premises::Two(a, b) => with(with(price, row, a), row, b),
-        Premises::Three(a, b, c) => with(with(with(price, row, a), row, b), row, c),
+    let mut cost = rule.price;
+    for x in rule.premises.as_slice() {
+        cost = cost.combine(settled(row, *x)?)?;
     }
+    Some(cost)
 }
 
 // Sees to it that the entry with e's index does not come after e.
@@ -83,44 +63,33 @@ fn consider<W: Weight>(rule: &Rule<W>, row: &[W], agenda: &mut Agenda<Entry<W>>)
     ensures room { room agenda.new ≡ room agenda.old }
     ensures considered { Considered W.Weight.algebra W.Weight.exact W.Weight.nothing row.now rule.now (entries agenda.old) (entries agenda.new) }
 {
-    if let Some(_) = settled(row, rule.result) {
+    let category = rule.result;
+    if settled(row, category).is_some() {
         return;
     }
-    let Some(cost) = weigh(rule, row) else {
-        return;
-    };
-    offer(
-        agenda,
-        Entry {
-            cost,
-            category: rule.result,
-        },
-    );
+    if let Some(cost) = weigh(rule, row) {
+        offer(agenda, Entry { cost, category });
+    }
 }
 
 // Offers what each rule gives. A rule that was offered before is looked at again, but what it gives does not come before what waits, so that the agenda is written at most once for a rule.
-fn offer_all<W: Weight, R: Rules<W>>(
-    rules: &R,
-    grammar: &Grammar,
-    lightest: &[W],
-    row: &[W],
-    agenda: &mut Agenda<Entry<W>>,
-)
-    requires ready { R.Rules.ready (model grammar.now) lightest.now }
-    requires row { length row.now ≡ categories (model grammar.now) }
-    requires room { room agenda.old ≡ categories (model grammar.now) }
+fn offer_all<W: Weight, R: Rules<W>>(rules: &R, row: &[W], agenda: &mut Agenda<Entry<W>>)
+    requires row { length row.now ≡ R.Rules.items rules.now }
+    requires room { room agenda.old ≡ R.Rules.items rules.now }
     requires sound { Sound (cheaper W.Weight.algebra W.Weight.exact) place agenda.old }
     ensures sound { Sound (cheaper W.Weight.algebra W.Weight.exact) place agenda.new }
     ensures room { room agenda.new ≡ room agenda.old }
-    ensures offered { AllOffered W.Weight.algebra W.Weight.exact W.Weight.nothing (R.Rules.count (model grammar.now)) (R.Rules.gives (model grammar.now) lightest.now) row.now (entries agenda.old) (R.Rules.count (model grammar.now)) (entries agenda.new) }
+    ensures offered { AllOffered W.Weight.algebra W.Weight.exact W.Weight.nothing (R.Rules.count rules.now) (R.Rules.gives rules.now) row.now (entries agenda.old) (R.Rules.count rules.now) (entries agenda.new) }
 {
-    for k in 0..rules.size(grammar) {
-        if let Some(rule) = rules.rule(grammar, lightest, k) {
+    // A number names a rule, and indexes nothing here.
+    for k in 0..rules.size() {
+        if let Some(rule) = rules.rule(k) {
             consider(&rule, row, agenda);
         }
     }
 }
 
+// In a function of its own: in `search` the check does not find that an element's offset fits, though its index is below the length.
 fn settle<W: Copy>(row: &mut [W], x: usize, w: W)
     requires { x < length row.old }
     ensures { row.new ≡ slice_set row.old x w }
@@ -129,25 +98,18 @@ fn settle<W: Copy>(row: &mut [W], x: usize, w: W)
 }
 
 // The lightest cost of each item, none at an item that no derivation within the ceiling has. In each turn the first entry is settled and every rule is looked at once.
-pub fn search<W: Weight, R: Rules<W>>(
-    rules: &R,
-    grammar: &Grammar,
-    lightest: &[W],
-    row: &mut [W],
-    cells: &mut [Cell<Entry<W>>],
-)
-    requires ready { R.Rules.ready (model grammar.now) lightest.now }
-    requires row { row.old ≡ replicate (categories (model grammar.now)) W.Weight.nothing }
-    requires cells { length cells.old ≡ categories (model grammar.now) }
-    ensures solved { Solved W.Weight.algebra W.Weight.exact W.Weight.nothing (system W.Weight.algebra W.Weight.exact (R.Rules.count (model grammar.now)) (R.Rules.gives (model grammar.now) lightest.now)) (categories (model grammar.now)) row.new }
-    ensures cells { cells.new ≡ replicate (categories (model grammar.now)) (blank_cell (blank_entry W.Weight.nothing)) }
+pub fn search<W: Weight, R: Rules<W>>(rules: &R, row: &mut [W], cells: &mut [Cell<Entry<W>>])
+    requires row { row.old ≡ replicate (R.Rules.items rules.now) W.Weight.nothing }
+    requires cells { length cells.old ≡ R.Rules.items rules.now }
+    ensures solved { Solved W.Weight.algebra W.Weight.exact W.Weight.nothing (system W.Weight.algebra W.Weight.exact (R.Rules.count rules.now) (R.Rules.gives rules.now)) (R.Rules.items rules.now) row.new }
+    ensures cells { cells.new ≡ replicate (R.Rules.items rules.now) (blank_cell (blank_entry W.Weight.nothing)) }
 {
     let n = cells.len();
     let mut agenda = Agenda::new(cells);
-    offer_all(rules, grammar, lightest, row, &mut agenda);
+    offer_all(rules, row, &mut agenda);
     while let Some(e) = agenda.pop() {
         settle(row, e.category, e.cost);
-        offer_all(rules, grammar, lightest, row, &mut agenda);
+        offer_all(rules, row, &mut agenda);
     }
     blank(cells, n, Entry::blank());
 }

@@ -2,16 +2,15 @@
 #![tactic(auto)]
 
 mod packs;
-mod rows;
+mod weighing;
 
 ghost use Rattle.std.specs.Prelude.{◌≡◌, ◌<◌, ◌≤◌, length, slice_index_or};
 
 use agenda::Cell;
 use estimate::{Category, Entry, Estimate, Larger, Null};
-use grammar::load;
 use packs::{DEAD, SAMPLE, STEEP};
-use rows::fill;
 use std::io;
+use weighing::weigh;
 use weight::odds::Odds;
 use weight::sums::Sums;
 use weight::weight::Weight;
@@ -26,6 +25,7 @@ fn main(rt: HostRuntime) -> io::Result<()> {
     odds(rt, "steep, category", &STEEP, &Category)
 }
 
+// The check does not know that arrays of weights of any kind fit in memory, so each kind has a function that makes them.
 fn sums<E: Estimate<Sums>>(
     rt: HostRuntime,
     name: &str,
@@ -36,7 +36,7 @@ fn sums<E: Estimate<Sums>>(
     let mut row = [Sums::none(); 32];
     let mut spare = [Sums::none(); 32];
     let mut cells = [Cell::new(Entry::blank()); 32];
-    weigh(
+    print(
         rt, name, pack, estimate, &mut low, &mut row, &mut spare, &mut cells,
     )
 }
@@ -51,7 +51,7 @@ fn odds<E: Estimate<Odds>>(
     let mut row = [Odds::none(); 32];
     let mut spare = [Odds::none(); 32];
     let mut cells = [Cell::new(Entry::blank()); 32];
-    weigh(
+    print(
         rt, name, pack, estimate, &mut low, &mut row, &mut spare, &mut cells,
     )
 }
@@ -64,8 +64,8 @@ fn shown<W: Weight>(row: &[W], c: usize) -> u32
     row[c].show()
 }
 
-// Prints the lightest weights and the estimate of each category.
-fn weigh<W: Weight, E: Estimate<W>>(
+// Prints the lightest weights and the estimate of each category, or why there are none.
+fn print<W: Weight, E: Estimate<W>>(
     rt: HostRuntime,
     name: &str,
     pack: &[u8],
@@ -80,11 +80,8 @@ fn weigh<W: Weight, E: Estimate<W>>(
     requires spare { 32 ≤ length spare.old }
     requires cells { 32 ≤ length cells.old }
 {
-    let Ok(grammar) = load(pack) else {
-        return println!(rt; "{name}: no grammar");
-    };
-    if !fill(&grammar, estimate, low, row, spare, cells) {
-        return println!(rt; "{name}: a weight number below the least");
+    if let Err(refusal) = weigh(pack, estimate, low, row, spare, cells) {
+        return println!(rt; "{name}: {refusal}");
     }
     let a = shown(low, 0);
     let b = shown(low, 1);

@@ -5,7 +5,6 @@ use Rattle.grammar.specs.Formed.{Each}
 use Rattle.estimate.specs.declared.entry.Entry.{Entry}
 use Rattle.estimate.specs.Entries.{cheaper, place}
 use Rattle.estimate.specs.Rules.{premises_of}
-use Rattle.grammar.specs.Model.{model}
 use Rattle.estimate.specs.Searches.{AllOffered}
 use Rattle.estimate.proofs.Searching.{considered, consider_none}
 use Rattle.estimate.proofs.search.offer_all.Goals as goal
@@ -13,11 +12,10 @@ use Rattle.estimate.proofs.search.offer_all.Goals.{in-Some, in_default}
 
 pub consider-requires : goal.consider-requires
 consider-requires g c =
-    let m = model c.args.grammar.now in
-    let low = c.args.lightest.now in
+    let rules = c.args.rules.now in
     let rule = c.in-Some.rule in
-    let within : c.loop-k.k < g.R.Rules.count m = omega (arith, c.size-k-end.ensures) in
-    let ok = g.met.R.Rules.inside m low c.loop-k.k rule c.requires.ready within c.in-Some.ensures in
+    let within : c.loop-k.k < g.R.Rules.count rules = omega (arith, c.size-k-end.ensures) in
+    let ok = g.met.R.Rules.inside rules c.loop-k.k rule within c.in-Some.ensures in
     record {
       result = omega (arith, ok.result);
       premises = subst (λ n. Each (λ p. p < n) (premises_of rule.premises)) (sym c.requires.row) ok.premises;
@@ -34,10 +32,9 @@ loop-k-preserved g c =
     let laws = g.met.W.Weight.lawful in
     let exact = g.W.Weight.exact in
     let nothing = g.W.Weight.nothing in
-    let m = model c.args.grammar.now in
-    let low = c.args.lightest.now in
-    let n = g.R.Rules.count m in
-    let gives = g.R.Rules.gives m low in
+    let rules = c.args.rules.now in
+    let n = g.R.Rules.count rules in
+    let gives = g.R.Rules.gives rules in
     let row = c.args.row.now in
     let k = c.loop-k.k in
     let was = c.loop-k.agenda in
@@ -54,7 +51,7 @@ loop-k-preserved g c =
             told.room ∙ inv.1,
             λ h.
                 let so_far = inv.2 h in
-                considered laws exact nothing n gives (g.met.R.Rules.one m low) row (entries was) (entries now) k so_far.0 so_far.1 w.in-Some.rule within w.in-Some.ensures told.considered,
+                considered laws exact nothing n gives (g.met.R.Rules.one rules) row (entries was) (entries now) k so_far.0 so_far.1 w.in-Some.rule within w.in-Some.ensures told.considered,
           ) in
           subst P (sym w.agenda-is) next
       | in_default w ↦
@@ -63,7 +60,7 @@ loop-k-preserved g c =
             inv.1,
             λ h.
                 let so_far = inv.2 h in
-                consider_none laws exact nothing n gives (g.met.R.Rules.one m low) row (entries was) (entries was) k so_far.0 so_far.1 (subst (gives k) w.in_default.is c.rule.ensures) refl,
+                consider_none laws exact nothing n gives (g.met.R.Rules.one rules) row (entries was) (entries was) k so_far.0 so_far.1 (subst (gives k) w.in_default.is c.rule.ensures) refl,
           ) in
           subst P (sym w.agenda-is) next
     ]

@@ -5,17 +5,14 @@ use Rattle.agenda.specs.Agendas.{entries}
 use Rattle.agenda.specs.Cells.{blank_cell}
 use Rattle.estimate.specs.Entries.{cheaper, place}
 use Rattle.estimate.specs.Rules.{system}
-use Rattle.grammar.specs.Model.{model}
-use Rattle.estimate.specs.Weighing.{categories}
 use Rattle.estimate.specs.Searches.{Searching, opens}
 use Rattle.estimate.proofs.Searching.{begin, entry_inside, settle, turned, opens_less, solved, blanked}
 use Rattle.estimate.proofs.search.search.Goals as goal
 
 pub offer_all-requires : goal.offer_all-requires
 offer_all-requires g c =
-    let n = categories (model c.args.grammar.now) in
+    let n = g.R.Rules.items c.args.rules.now in
     record {
-      ready = c.requires.ready;
       row = ap length c.requires.row ∙ length-replicate n g.W.Weight.nothing;
       room = ap length c.new-agenda.ensures.cells ∙ c.requires.cells;
       sound = c.new-agenda.ensures.sound;
@@ -26,11 +23,10 @@ loop-e-init g c =
     let A = g.W.Weight.algebra in
     let exact = g.W.Weight.exact in
     let nothing = g.W.Weight.nothing in
-    let m = model c.args.grammar.now in
-    let low = c.args.lightest.now in
-    let n = categories m in
+    let rules = c.args.rules.now in
+    let n = g.R.Rules.items rules in
     let told = c.offer_all.ensures in
-    let all = told.offered (begin A exact nothing (system A exact (g.R.Rules.count m) (g.R.Rules.gives m low)) n c.args.row.now (entries c.new-agenda.result) c.requires.row c.new-agenda.ensures.empty) in (
+    let all = told.offered (begin A exact nothing (system A exact (g.R.Rules.count rules) (g.R.Rules.gives rules)) n c.args.row.now (entries c.new-agenda.result) c.requires.row c.new-agenda.ensures.empty) in (
       told.sound,
       told.room ∙ ap length c.new-agenda.ensures.cells ∙ c.requires.cells,
       ap length c.requires.row ∙ length-replicate n nothing,
@@ -50,15 +46,14 @@ loop-e-smaller g c =
     let w = g.met.W.Weight in
     let exact = g.W.Weight.exact in
     let nothing = g.W.Weight.nothing in
-    let m = model c.args.grammar.now in
-    let low = c.args.lightest.now in
+    let rules = c.args.rules.now in
     let inv = c.loop-e.invariant in
     let row = c.loop-e.row in
     let e = c.in-Some.e in
     let taken = c.in-Some.ensures.popped in
     let l = entry_inside (cheaper A exact) place c.loop-e.agenda inv.0 e taken.member in
     let inside : e.category < length row = omega (arith, l, inv.1, inv.2) in
-    let t = turned w.lawful exact nothing w.within w.same w.empty (g.R.Rules.count m) (g.R.Rules.gives m low) (λ k r h q. (g.met.R.Rules.inside m low k r c.requires.ready h q).priced)
+    let t = turned w.lawful exact nothing w.within w.same w.empty (g.R.Rules.count rules) (g.R.Rules.gives rules) (λ k r h q. (g.met.R.Rules.inside rules k r h q).priced)
     row (entries c.loop-e.agenda) inv.3 inv.4 e (entries c.pop.new.self) taken inside in
     let fewer = opens_less w.lawful exact nothing w.within w.same w.empty row e.category e.cost inside t.0 t.1 in
     let now : opens A exact c.settle.new.row ≡ opens A exact (set row e.category e.cost) = ap (opens A exact) c.settle.ensures in
@@ -70,10 +65,9 @@ loop-e-preserved g c =
     let w = g.met.W.Weight in
     let exact = g.W.Weight.exact in
     let nothing = g.W.Weight.nothing in
-    let m = model c.args.grammar.now in
-    let low = c.args.lightest.now in
-    let n = g.R.Rules.count m in
-    let gives = g.R.Rules.gives m low in
+    let rules = c.args.rules.now in
+    let n = g.R.Rules.count rules in
+    let gives = g.R.Rules.gives rules in
     let inv = c.loop-e.invariant in
     let row = c.loop-e.row in
     let e = c.in-Some.e in
@@ -82,7 +76,7 @@ loop-e-preserved g c =
     let l = entry_inside (cheaper A exact) place c.loop-e.agenda inv.0 e taken.member in
     let inside : e.category < length row = omega (arith, l, inv.1, inv.2) in
     let told = c.offer_all-in-Some.ensures in
-    let settled = settle w.lawful exact nothing w.within w.same w.empty n gives (λ k r h q. (g.met.R.Rules.inside m low k r c.requires.ready h q).priced)
+    let settled = settle w.lawful exact nothing w.within w.same w.empty n gives (λ k r h q. (g.met.R.Rules.inside rules k r h q).priced)
     row (entries c.loop-e.agenda) inv.3 inv.4 e (entries c.pop.new.self) taken inside in
     let S : List g.row.W.Denot → Type 0 = λ r. Searching A exact nothing (system A exact n gives) r (entries c.pop.new.self) in
     let all = told.offered (subst S (sym c.settle.ensures) settled) in (
@@ -98,15 +92,14 @@ returns g c =
     let w = g.met.W.Weight in
     let exact = g.W.Weight.exact in
     let nothing = g.W.Weight.nothing in
-    let m = model c.args.grammar.now in
-    let low = c.args.lightest.now in
+    let rules = c.args.rules.now in
     let inv = c.loop-e.invariant in
     let popped = c.in_default.ensures in
     let n = length c.args.cells.now in
     let left = c.pop.new.self.cells.now in
     let few : length left ≤ n = omega (arith, popped.room, inv.1, c.requires.cells) in
     record {
-      solved = λ x h. solved w.lawful exact nothing w.within w.same w.empty (g.R.Rules.count m) (g.R.Rules.gives m low) (λ k r l q. (g.met.R.Rules.inside m low k r c.requires.ready l q).priced)
+      solved = λ x h. solved w.lawful exact nothing w.within w.same w.empty (g.R.Rules.count rules) (g.R.Rules.gives rules) (λ k r l q. (g.met.R.Rules.inside rules k r l q).priced)
           c.loop-e.row (entries c.loop-e.agenda) inv.3 inv.4 popped.popped.0 x (omega (arith, h, inv.2));
-      cells = blanked n (categories m) c.blank-2.new.cells _ (blank_cell c.blank.result) _ c.blank-2.ensures (omega arith) c.requires.cells (ap blank_cell c.blank.ensures);
+      cells = blanked n (g.R.Rules.items rules) c.blank-2.new.cells _ (blank_cell c.blank.result) _ c.blank-2.ensures (omega arith) c.requires.cells (ap blank_cell c.blank.ensures);
     }

@@ -1,37 +1,42 @@
-use Rattle.std.proofs.Common.{[], ◌∷◌, sym, refl, subst}
-use Rattle.estimate.specs.declared.rules.Premises.{Premises}
-use Rattle.estimate.specs.Rules.{premises_of}
-use Rattle.estimate.specs.Searches.{Weighed}
-use Rattle.estimate.proofs.Searching.{with_price}
+use Rattle.std.proofs.Common.{◌≡◌, ◌<◌, ◌+◌, ℕ, suc, List, ◌∷◌, [], ◌++◌, Some, None, length, take, drop, get_or, sym, ◌∙◌, ap, subst, arith, take-append-drop}
+use Rattle.std.proofs.Math.Seq.{take-suc}
+use Rattle.estimate.specs.Searches.{at, Open, Weighed}
+use Rattle.estimate.proofs.Searching.{with_both, with_more}
 use Rattle.estimate.proofs.search.weigh.Goals as goal
 
-pub returns-in-One : goal.returns-in-One
-returns-in-One g c =
+pub returns-in_err-cost : goal.returns-in_err-cost
+returns-in_err-cost g c =
+    let A = g.W.Weight.algebra in
+    let laws = g.met.W.Weight.lawful in
     let exact = g.W.Weight.exact in
-    let rule = c.args.rule.now in
-    let price = exact rule.price in
+    let nothing = g.W.Weight.nothing in
     let row = c.args.row.now in
-    let P : Premises → Type 0 = λ q. Weighed g.W.Weight.algebra exact g.W.Weight.nothing row price (premises_of q) c.with.result in
-    subst P (sym c.in-One.is) (c.with.ensures price [] (with_price g.met.W.Weight.lawful exact g.W.Weight.nothing row price [] 0 rule.price refl))
+    let price = exact c.args.rule.now.price in
+    let ps = c.args.rule.now.premises.items in
+    let k = c.loop-x.x-index in
+    let x = get_or ps k 0 in
+    let inside : k < length ps = omega (arith, ap length c.as_slice-x-items.ensures.value) in
+    let told : (c.in_ok-settled.field-0 ≡ at A exact nothing row x) × (Open A exact nothing row x → ⊥) =
+    subst (λ (qs : List ℕ). (c.in_ok-settled.field-0 ≡ at A exact nothing row (get_or qs k 0)) × (Open A exact nothing row (get_or qs k 0) → ⊥)) c.as_slice-x-items.ensures.value c.in_ok-settled.ensures in
+    let heavy = with_both laws exact nothing row price (take k ps) x c.loop-x.cost c.in_ok-settled.field-0 c.loop-x.invariant told.0 told.1 None c.in_err-cost.ensures in
+    let whole : (take k ps ++ x ∷ []) ++ drop (suc k) ps ≡ ps = ap (λ qs. qs ++ drop (suc k) ps) (sym (take-suc ps k 0 inside)) ∙ take-append-drop (suc k) ps in
+    let none = subst (λ qs. Weighed A exact nothing row price qs None) whole (with_more laws exact nothing row price (take k ps ++ x ∷ []) (drop (suc k) ps) heavy) in
+    subst (Weighed A exact nothing row price ps) (sym c.from_residual-in_err-cost.ensures) none
 
-pub returns-in-Two : goal.returns-in-Two
-returns-in-Two g c =
+pub loop-x-preserved : goal.loop-x-preserved
+loop-x-preserved g c =
+    let A = g.W.Weight.algebra in
+    let laws = g.met.W.Weight.lawful in
     let exact = g.W.Weight.exact in
-    let rule = c.args.rule.now in
-    let price = exact rule.price in
+    let nothing = g.W.Weight.nothing in
     let row = c.args.row.now in
-    let a = c.in-Two.a in
-    let P : Premises → Type 0 = λ q. Weighed g.W.Weight.algebra exact g.W.Weight.nothing row price (premises_of q) c.with-in-Two-2.result in
-    subst P (sym c.in-Two.is) (c.with-in-Two-2.ensures price (a ∷ []) (c.with-in-Two.ensures price [] (with_price g.met.W.Weight.lawful exact g.W.Weight.nothing row price [] 0 rule.price refl)))
-
-pub returns-in-Three : goal.returns-in-Three
-returns-in-Three g c =
-    let exact = g.W.Weight.exact in
-    let rule = c.args.rule.now in
-    let price = exact rule.price in
-    let row = c.args.row.now in
-    let a = c.in-Three.a in
-    let b = c.in-Three.b in
-    let P : Premises → Type 0 = λ q. Weighed g.W.Weight.algebra exact g.W.Weight.nothing row price (premises_of q) c.with-in-Three-3.result in
-    subst P (sym c.in-Three.is)
-    (c.with-in-Three-3.ensures price (a ∷ b ∷ []) (c.with-in-Three-2.ensures price (a ∷ []) (c.with-in-Three.ensures price [] (with_price g.met.W.Weight.lawful exact g.W.Weight.nothing row price [] 0 rule.price refl))))
+    let price = exact c.args.rule.now.price in
+    let ps = c.args.rule.now.premises.items in
+    let k = c.loop-x.x-index in
+    let x = get_or ps k 0 in
+    let inside : k < length ps = omega (arith, ap length c.as_slice-x-items.ensures.value) in
+    let told : (c.in_ok-settled.field-0 ≡ at A exact nothing row x) × (Open A exact nothing row x → ⊥) =
+    subst (λ (qs : List ℕ). (c.in_ok-settled.field-0 ≡ at A exact nothing row (get_or qs k 0)) × (Open A exact nothing row (get_or qs k 0) → ⊥)) c.as_slice-x-items.ensures.value c.in_ok-settled.ensures in
+    let more = with_both laws exact nothing row price (take k ps) x c.loop-x.cost c.in_ok-settled.field-0 c.loop-x.invariant told.0 told.1 (Some c.in_ok-cost.cost) c.in_ok-cost.ensures in
+    let next : k + 1 ≡ suc k = omega arith in
+    subst (λ qs. Weighed A exact nothing row price qs (Some c.in_ok-cost.cost)) (sym (ap (λ j. take j ps) next ∙ take-suc ps k 0 inside)) more

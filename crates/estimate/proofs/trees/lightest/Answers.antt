@@ -1,4 +1,4 @@
-use Rattle.std.proofs.Common.{◌≡◌, ◌-◌, ◌++◌, length, drop, replicate, sym, ap, ◌∙◌, subst, arith}
+use Rattle.std.proofs.Common.{◌≡◌, ◌++◌, length, drop, replicate, sym, ap, ◌∙◌, subst, arith}
 use borrow.Rule.Slice.PartMut.{post_of}
 use Rattle.std.proofs.lemmas.List.{get_or_append_left, length-take-le}
 use Rattle.std.proofs.lemmas.Slice.{drop-put_mid}
@@ -10,11 +10,11 @@ use Rattle.estimate.proofs.trees.lightest.Goals as goal
 
 pub returns : goal.returns
 returns g c =
-    let m = model c.args.grammar.now in
+    let m = model c.args.accepted.now.grammar.now in
     let A = g.W.Weight.algebra in
     let exact = g.W.Weight.exact in
     let n = categories m in
-    let k = length c.dimensions-n.result.now - 0 in
+    let k = length c.dimensions-n.result.now in
     let same : k ≡ n = omega (arith, ap length c.dimensions-n.ensures) in
     let row = c.args.row.now in
     let cells = c.args.cells.now in

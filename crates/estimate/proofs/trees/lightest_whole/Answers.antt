@@ -9,22 +9,20 @@ use Rattle.estimate.proofs.trees.lightest_whole.Goals as goal
 
 pub search-requires : goal.search-requires
 search-requires g c =
-    let m = model c.args.grammar.now in
     record {
-      ready = (formed_is m c.args.grammar.now.well_formed, c.requires.accepted);
       row = c.blank_row.ensures ∙ ap (λ n. replicate n g.W.Weight.nothing) c.requires.row;
       cells = c.requires.cells;
     }
 
 pub returns : goal.returns
 returns g c =
-    let m = model c.args.grammar.now in
+    let m = model c.args.accepted.now.grammar.now in
     let w = g.met.W.Weight in
     let A = g.W.Weight.algebra in
     let exact = g.W.Weight.exact in
     let row = c.search.new.row in
-    let formed = formed_is m c.args.grammar.now.well_formed in
-    let all = light_row w.lawful exact m (TreeRule A exact m) (λ p r h k. k) (rule_of w.lawful exact m formed c.requires.accepted w.held) w.within g.W.Weight.nothing w.empty row c.search.ensures.solved in
+    let formed = formed_is m c.args.accepted.now.grammar.now.well_formed in
+    let all = light_row w.lawful exact m (TreeRule A exact m) (λ p r h k. k) (rule_of w.lawful exact m formed c.args.accepted.now.accepted w.held) w.within g.W.Weight.nothing w.empty row c.search.ensures.solved in
     record {
       lightest = λ x d h. subst (λ v. Light A m x (exact v)) (get_or_default row x g.W.Weight.nothing d (omega (arith, h, c.requires.row))) (all x h);
       cells = c.search.ensures.cells;

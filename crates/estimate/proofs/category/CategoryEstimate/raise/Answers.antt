@@ -1,4 +1,4 @@
-use Rattle.std.proofs.Common.{◌≡◌, ◌-◌, ◌++◌, length, take, sym, ap, ◌∙◌, arith, take-append-drop}
+use Rattle.std.proofs.Common.{◌≡◌, ◌++◌, length, take, sym, ap, ◌∙◌, arith, take-append-drop}
 use borrow.Rule.Slice.PartMut.{post_of}
 use Rattle.std.proofs.lemmas.List.{get_or_append_left, get_or-take, length-take-le}
 use Rattle.std.proofs.lemmas.Slice.{drop-put_mid}
@@ -10,11 +10,11 @@ use Rattle.estimate.proofs.category.CategoryEstimate.raise.Goals as goal
 
 pub returns : goal.returns
 returns g c =
-    let m = model c.args.grammar.now in
+    let m = model c.args.weighed.now.accepted.grammar.now in
     let A = g.W.Weight.algebra in
     let exact = g.W.Weight.exact in
     let n = categories m in
-    let k = length c.dimensions-n.result.now - 0 in
+    let k = length c.dimensions-n.result.now in
     let same : k ≡ n = omega (arith, ap length c.dimensions-n.ensures) in
     let row = c.args.row.now in
     let spare = c.args.spare.now in

@@ -6,7 +6,7 @@ use Rattle.estimate.proofs.estimate.LargerEstimate.raise.Goals as goal
 
 pub returns : goal.returns
 returns g c =
-    let m = model c.args.grammar.now in
+    let m = model c.args.weighed.now.accepted.grammar.now in
     let first = c.raise.ensures in
     let second = c.raise-2.ensures in
     record {

@@ -6,7 +6,7 @@ use Rattle.estimate.proofs.estimate.NullEstimate.raise.Goals as goal
 
 pub returns : goal.returns
 returns g c = record {
-  raised = raised_not g.met.W.Weight.lawful g.W.Weight.exact (categories (model c.args.grammar.now)) g.W.Weight.nothing g.met.W.Weight.empty c.args.row.now;
+  raised = raised_not g.met.W.Weight.lawful g.W.Weight.exact (categories (model c.args.weighed.now.accepted.grammar.now)) g.W.Weight.nothing g.met.W.Weight.empty c.args.row.now;
   spare = refl;
   cells = refl;
 }
