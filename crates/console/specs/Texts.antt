@@ -9,9 +9,7 @@
 use Rattle.std.specs.Prelude.{ℕ, ◌+◌, cond, List, [], ◌∷◌, ◌++◌, length, Ok, Err, codes, decimal, Result, ◌==◌}
 use Rattle.grammar.specs.Grammars.{ProductionModel, GrammarModel}
 use Rattle.grammar.specs.declared.symbol.Symbol.{Symbol}
-use Rattle.grammar.specs.declared.symbol.Symbol.TheVariants as symbol
-use Rattle.grammar.specs.declared.stops.Layer.{Layer}
-use Rattle.grammar.specs.declared.stops.Layer.TheVariants.{Reader, Grammar}
+use Rattle.grammar.specs.Printed.{layer_text, symbol_text as printed}
 use Rattle.grammar.specs.Stops.{Stop}
 use Rattle.line.specs.Stops as line
 use Rattle.replay.specs.Stops as replay
@@ -20,10 +18,6 @@ use Rattle.line.specs.Runs.{Content, Keying, Keyed, Reply, Made, WhileSealed, Wh
 abbrev pub listed : {X : Type 0} → (ℕ → X → List ℕ) → ℕ → List X → List ℕ
 listed f i [] = []
 listed f i (x ∷ xs) = f i x ++ listed f (i + 1) xs
-
-abbrev pub layer_text : Layer → List ℕ
-layer_text Reader = codes "reader"
-layer_text Grammar = codes "grammar"
 
 abbrev pub stop_text : Stop → List ℕ
 stop_text o =
@@ -46,8 +40,7 @@ argument_text i a = cond (i == 0) [] (codes " ") ++ decimal a
 
 -- a space before each symbol
 abbrev pub symbol_text : ℕ → Symbol → List ℕ
-symbol_text i (symbol.Token t) = codes " " ++ decimal t
-symbol_text i (symbol.Part k l) = codes " <" ++ (decimal k ++ (codes ";" ++ (decimal l ++ codes ">")))
+symbol_text i s = codes " " ++ printed s
 
 -- a stroke between the constituents
 abbrev pub constituent_text : ℕ → List Symbol → List ℕ

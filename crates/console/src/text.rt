@@ -2,33 +2,24 @@
 ghost use Rattle.std.specs.Prelude.{◌≡◌, ℕ, List, [], ◌++◌, length, IfOk, if◌then◌else◌, Err, string_bytes, OnOk, nat_eq};
 ghost use Rattle.replay.specs.Replays.{replay_of};
 ghost use Rattle.console.specs.Lists.{Appends};
-ghost use Rattle.console.specs.Texts.{argument_text, category_text, constituent_text, content_text, counts_text, figure_text, grammar_text, head_text, kind_text, layer_text, listed, no_pack, pack_text, played_text, production_text, reply_text, room_text, start_text, stop_text, symbol_text, token_text, tokens_text};
+ghost use Rattle.console.specs.Texts.{argument_text, category_text, constituent_text, content_text, counts_text, figure_text, grammar_text, head_text, kind_text, listed, no_pack, pack_text, played_text, production_text, reply_text, room_text, start_text, stop_text, symbol_text, token_text, tokens_text};
 ghost use Rattle.grammar.specs.Entries.{entries};
 ghost use Rattle.grammar.specs.Held.{production_model};
 ghost use Rattle.grammar.specs.Model.{model};
 ghost use Rattle.grammar.specs.Stops.{told};
 ghost use Rattle.line.specs.Runs.{Content, content_of, reply};
 
-use grammar::{Grammar, Layer, PackStop, Production, Row, Symbol};
+use grammar::{Constituent, Grammar, PackStop, Production, Symbol};
 use line::{Held, Refusal};
 use replay::replay;
 use std::alloc::{AllocError, Global};
-
-fn layer_name(layer: Layer) -> &'static str
-    ensures { result.now ≡ layer_text layer }
-{
-    match layer {
-        Layer::Reader => "reader",
-        Layer::Grammar => "grammar",
-    }
-}
 
 pub(crate) fn stop_line(heap: Global, stop: &PackStop) -> Result<String, AllocError>
     ensures { IfOk result (λ s. string_bytes s ≡ stop_text (told stop.now)) }
 {
     let number = stop.number();
     let figure = stop.figure();
-    let layer = layer_name(stop.layer());
+    let layer = stop.layer();
     format!(in heap; "stop {number} figure {figure} layer {layer}\n")
 }
 
@@ -67,25 +58,15 @@ where
 fn push_symbol(out: &mut String, i: usize, symbol: &Symbol) -> Result<(), AllocError>
     ensures { OnOk result (string_bytes out.new ≡ string_bytes out.old ++ symbol_text i symbol.now) }
 {
-    match *symbol {
-        Symbol::Token(token) => write!(out, " {token}"),
-        Symbol::Part {
-            argument,
-            constituent,
-        } => write!(out, " <{argument};{constituent}>"),
-    }
+    write!(out, " {symbol}")
 }
 
 // A stroke stands between two constituents.
-fn push_constituent(
-    out: &mut String,
-    i: usize,
-    constituent: &Row<Symbol, 8>,
-) -> Result<(), AllocError>
+fn push_constituent(out: &mut String, i: usize, constituent: &Constituent) -> Result<(), AllocError>
     ensures { OnOk result (string_bytes out.new ≡ string_bytes out.old ++ constituent_text i (entries constituent.now)) }
 {
     out.push_str(separator(i, " /"))?;
-    push_each(out, constituent.items(), push_symbol)
+    push_each(out, constituent, push_symbol)
 }
 
 // A space stands between two arguments.

@@ -11,7 +11,7 @@ use crate::front::Front;
 use crate::shape::{Lengths, joined, total};
 use crate::stack::Tokens;
 use arrayvec::CapacityError;
-use grammar::{Row, Symbol};
+use grammar::{Constituent, Symbol};
 use std::slice;
 
 impl<'a> Front<'a> {
@@ -63,7 +63,7 @@ impl<'a> Front<'a> {
     // The strings of all constituents with the tokens of `behind` after them, if there is room, and how long each string is.
     pub(crate) fn spell_all(
         &self,
-        constituents: &[Row<Symbol, 8>],
+        constituents: &[Constituent],
         behind: &[u16],
     ) -> Result<(Tokens, Lengths), CapacityError>
         requires { OneOrTwo (length constituents.now) }
@@ -74,7 +74,7 @@ impl<'a> Front<'a> {
         let mut lengths = Lengths::new();
         for constituent in constituents {
             let before = tokens.len();
-            self.spell(constituent.items(), &mut tokens)?;
+            self.spell(constituent, &mut tokens)?;
             lengths.push((tokens.len() - before) as u8);
         }
         tokens.try_extend_from_slice(behind)?;
