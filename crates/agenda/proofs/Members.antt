@@ -5,7 +5,7 @@ use Rattle.std.specs.List.{ContainsAt as Has}
 use Rattle.std.proofs.lemmas.List.Edits.{swap_is}
 use Rattle.std.proofs.ByRecursion.{has_get_or, has_shuffled}
 use Rattle.std.proofs.lemmas.List.{same_lists, get_or-drop, get_or-set_same, get_or-set_other, length-drop, length-map}
-use Rattle.std.proofs.lemmas.List.Sorted.{IsPermutation-swap, IsPermutation-sym, IsPermutation-cons, IsPermutation-trans}
+use Rattle.std.proofs.lemmas.List.Sorted.{IsPermutation-swap, IsPermutation-sym, IsPermutation-cons, IsPermutation-trans, length_permutation}
 use Rattle.std.proofs.lemmas.Bool.{cases_eq, cases_lt}
 use Rattle.agenda.specs.Orders.{First}
 use Rattle.agenda.specs.Places.{Placed, Absent, Present, Improved}
@@ -189,3 +189,15 @@ module _ {X : Type 0} (ix : X → ℕ) where
       (λ k d l. get_or-drop n after k d
       ∙ kept (n + k) d (omega arith) (λ i x m e. let h = below (get_or xs i x) (has_get_or xs i x m) in omega arith)
       ∙ sym (get_or-drop n cells k d))
+
+  -- the same, where those entries are held
+  pub beyond_held : (cells after : List (Cell X)) (m n : ℕ) → length after ≡ length cells → Placed ix (held cells m) (slots_of cells) → Untouched ix (held cells m) cells after → Bounded ix (held cells m) n → drop n after ≡ drop n cells
+  beyond_held cells after m n long placed kept below = beyond (held cells m) cells after n long (fewer (held cells m) (slots_of cells) n placed below) below kept
+
+  -- the same, where e came in
+  pub beyond_pushed : (cells after : List (Cell X)) (m k n : ℕ) (e : X) → length after ≡ length cells → IsPermutation (e ∷ held cells m) (held after k) → Placed ix (held after k) (slots_of after) → Untouched ix (e ∷ held cells m) cells after → Bounded ix (held after k) n
+      → drop n after ≡ drop n cells
+  beyond_pushed cells after m k n e long adds placed kept below =
+      let more : length (held after k) ≡ length (e ∷ held cells m) = length_permutation (e ∷ held cells m) (held after k) adds in
+      let few : length (held after k) ≤ n = fewer (held after k) (slots_of after) n placed below in
+      beyond (e ∷ held cells m) cells after n long (omega arith) (λ x h. below x (has_shuffled (e ∷ held cells m) (held after k) x adds h)) kept

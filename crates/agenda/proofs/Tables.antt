@@ -1,18 +1,14 @@
 -- What several changes to a table leave. Assumes nothing.
-use Rattle.std.proofs.Common.{◌≡◌, ℕ, ◌≤◌, ◌∷◌, length, drop, ◌∙◌, arith}
+use Rattle.std.proofs.Common.{◌≡◌, ℕ, List, length, ◌∙◌, subst}
 use Rattle.std.specs.List.Sorted.{IsPermutation}
-use Rattle.std.proofs.lemmas.List.Sorted.{length_permutation}
-use Rattle.std.proofs.ByRecursion.{has_shuffled}
 use Rattle.std.specs.declared.cmp.Ord as Ord
 use Rattle.std.specs.declared.cmp.PartialEq as PartialEq
 use Rattle.std.specs.declared.cmp.PartialOrd as PartialOrd
 use Rattle.agenda.specs.declared.entry.Slotted as Slotted
+use Rattle.agenda.specs.declared.cells.Cell.{Cell}
 use Rattle.agenda.specs.declared.table.Table.{Table}
-use Rattle.agenda.specs.Tables.{listed, Lies, Stays}
-use Rattle.agenda.specs.Cells.{slots_of}
-use Rattle.agenda.specs.Agendas.{Bounded}
+use Rattle.agenda.specs.Tables.{listed, Stays}
 use Rattle.agenda.proofs.Parts.{held_length, untouched_then}
-use Rattle.agenda.proofs.Members.{fewer, beyond}
 
 module _ {X : Type 0} {slotted : Slotted.Ghosts X} {ord : Ord.Ghosts X} {eq : PartialEq.Ghosts X} {partial : PartialOrd.Ghosts X} where
   pub listed_length : (t : Table X slotted ord eq partial) → length (listed t) ≡ t.len
@@ -28,14 +24,6 @@ module _ {X : Type 0} {slotted : Slotted.Ghosts X} {ord : Ord.Ghosts X} {eq : Pa
     };
   }
 
-  -- cells at and beyond n, where n bounds the indices
-  pub beyond_listed : (a b : Table X slotted ord eq partial) (n : ℕ) → Lies (listed a) a b → Bounded slotted.index (listed a) n → drop n b.cells.now ≡ drop n a.cells.now
-  beyond_listed a b n told below =
-      beyond slotted.index (listed a) a.cells.now b.cells.now n told.room (fewer slotted.index (listed a) (slots_of a.cells.now) n a.placed below) below told.untouched
-
-  -- the same, where e came in
-  pub beyond_pushed : (a b : Table X slotted ord eq partial) (e : X) (n : ℕ) → IsPermutation (e ∷ listed a) (listed b) → Lies (e ∷ listed a) a b → Bounded slotted.index (listed b) n → drop n b.cells.now ≡ drop n a.cells.now
-  beyond_pushed a b e n adds told below =
-      let more : length (listed b) ≡ length (e ∷ listed a) = length_permutation (e ∷ listed a) (listed b) adds in
-      let few : length (listed b) ≤ n = fewer slotted.index (listed b) (slots_of b.cells.now) n b.placed below in
-      beyond slotted.index (e ∷ listed a) a.cells.now b.cells.now n told.room (omega arith) (λ x h. below x (has_shuffled (e ∷ listed a) (listed b) x adds h)) told.untouched
+-- what holds of a table before and after, of the agenda whose cells it was lent
+pub turned : {X : Type 0} (P : List (Cell X) → ℕ → List (Cell X) → ℕ → Type 0) (c : List (Cell X)) (n : ℕ) (c' : List (Cell X)) (n' : ℕ) {d d' : List (Cell X)} {m m' : ℕ} → d ≡ c → m ≡ n → d' ≡ c' → m' ≡ n' → P d m d' m' → P c n c' n'
+turned P c n c' n' {d} {d'} {m} {m'} p q r s h = subst (λ z. P z n c' n') p (subst (λ z. P d z c' n') q (subst (λ z. P d m z n') r (subst (λ z. P d m d' z) s h)))

@@ -13,13 +13,13 @@ use Rattle.std.specs.declared.cmp.PartialEq as PartialEq
 use Rattle.std.specs.declared.cmp.PartialOrd as PartialOrd
 use Rattle.agenda.specs.declared.entry.Slotted as Slotted
 use Rattle.agenda.specs.Orders.{First}
-use Rattle.agenda.specs.Tables.{listed}
+use Rattle.agenda.specs.Cells.{held}
 use Rattle.agenda.specs.declared.agenda.Agenda.{Agenda}
 use Rattle.agenda.specs.declared.cells.Cell.{Cell}
 
 module _ {X : Type 0} {slotted : Slotted.Ghosts X} {ord : Ord.Ghosts X} {eq : PartialEq.Ghosts X} {partial : PartialOrd.Ghosts X} where
   abbrev pub cells_of : Agenda X slotted ord eq partial → List (Cell X)
-  cells_of a = a.table.cells.now
+  cells_of a = a.cells.now
 
   -- How many entries there is room for; an index below it can be held.
   abbrev pub room : Agenda X slotted ord eq partial → ℕ
@@ -27,10 +27,10 @@ module _ {X : Type 0} {slotted : Slotted.Ghosts X} {ord : Ord.Ghosts X} {eq : Pa
 
   -- How many entries are held.
   abbrev pub count : Agenda X slotted ord eq partial → ℕ
-  count a = a.table.len
+  count a = a.len
 
   abbrev pub entries : Agenda X slotted ord eq partial → List X
-  entries a = listed a.table
+  entries a = held (cells_of a) a.len
 
 module _ {X : Type 0} where
   -- The indices of xs lie below n.

@@ -6,7 +6,8 @@ ghost use Rattle.agenda.specs.Cells.{held, slots_of};
 use crate::cells::Cell;
 use crate::entry::Slotted;
 
-// The first `len` cells hold entries, and the slot of each entry's index says where it lies.
+// What an agenda is while entries move: the slot of each entry's index says where it lies, but a child may come before its parent.
+// It is lent the agenda's cells for the time of a call, and is no field of the agenda: of a slice that lies in a struct in a struct, a caller learns nothing at the end of its life.
 #[derive(Drop)]
 pub struct Table<'a, E: Slotted> {
     cells: &'a mut [Cell<E>],

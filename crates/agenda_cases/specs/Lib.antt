@@ -1,3 +1,1 @@
 pub mod Orders
-pub mod Uses
-pub mod Lexical

@@ -1,7 +1,7 @@
 // The calls on an agenda: push, pop, look up by index, improve, offer.
-ghost use Rattle.std.specs.Prelude.{◌≡◌, ℕ, ◌+◌, ◌<◌, [], drop, MatchBool, MatchOption};
+ghost use Rattle.std.specs.Prelude.{◌≡◌, ℕ, ◌+◌, ◌<◌, [], drop, MatchBool, MatchOption, slice_index_or};
 ghost use Rattle.agenda.specs.Orders.{before};
-ghost use Rattle.agenda.specs.Places.{Absent};
+ghost use Rattle.agenda.specs.Places.{Absent, Present};
 ghost use Rattle.agenda.specs.Agendas.{room, count, entries, cells_of, Bounded, Holding, Pushed, Popped, Improves, Offered};
 
 use super::Agenda;
@@ -14,10 +14,29 @@ impl<'a, E: Slotted> Agenda<'a, E> {
     pub fn new(cells: &'a mut [Cell<E>]) -> Agenda<'a, E>
         ensures empty { entries result ≡ [] }
         ensures cells { cells_of result ≡ cells.old }
-        ensures named { result.table.cells.ghost_name ≡ cells.entry.ghost_name }
+        ensures named { result.cells.ghost_name ≡ cells.entry.ghost_name }
     {
-        Agenda {
-            table: Table::new(cells),
+        Agenda { cells, len: 0 }
+    }
+
+    // The entry at i.
+    fn entry(&self, i: usize) -> E
+        requires { i < count self.now }
+        ensures { (d : E) → result ≡ slice_index_or (entries self.now) i d }
+    {
+        self.cells[i].entry
+    }
+
+    // Where the entry with the index k lies.
+    fn find(&self, k: usize) -> Option<usize>
+        requires { k < room self.now }
+        ensures { MatchOption result (Absent E.index (entries self.now) k) (λ p. Present E.index (entries self.now) k p) }
+    {
+        let p = self.cells[k].slot;
+        if p < self.len && self.entry(p).slot_index() == k {
+            Some(p)
+        } else {
+            None
         }
     }
 
@@ -26,8 +45,8 @@ impl<'a, E: Slotted> Agenda<'a, E> {
         requires { k < room self.now }
         ensures { MatchOption result (Absent E.index (entries self.now) k) (Holding E.index (entries self.now) k) }
     {
-        let p = self.table.find(k)?;
-        Some(self.table.entry(p))
+        let p = self.find(k)?;
+        Some(self.entry(p))
     }
 
     // Whether an entry has the index k.
@@ -43,42 +62,62 @@ impl<'a, E: Slotted> Agenda<'a, E> {
         requires within { E.index e < room self.old }
         requires absent { Absent E.index (entries self.old) (E.index e) }
         ensures room { room self.new ≡ room self.old }
-        ensures named { self.new.table.cells.ghost_name ≡ self.old.table.cells.ghost_name }
+        ensures named { self.new.cells.ghost_name ≡ self.old.cells.ghost_name }
         ensures pushed { Pushed e (entries self.old) (entries self.new) }
         ensures untouched { (n : ℕ) → Bounded E.index (entries self.new) n → drop n (cells_of self.new) ≡ drop n (cells_of self.old) }
     {
-        self.table.push(e);
+        let len = self.len;
+        let cells = &mut *self.cells;
+        let mut table = Table::new(cells, len);
+        table.push(e);
+        self.len = len + 1;
     }
 
     // Takes the first entry out.
     pub fn pop(&mut self) -> Option<E>
         ensures room { room self.new ≡ room self.old }
-        ensures named { self.new.table.cells.ghost_name ≡ self.old.table.cells.ghost_name }
+        ensures named { self.new.cells.ghost_name ≡ self.old.cells.ghost_name }
         ensures count { MatchOption result (count self.new ≡ count self.old) (λ _. count self.new + 1 ≡ count self.old) }
         ensures popped { Popped (before E.cmp) E.index result (entries self.old) (entries self.new) }
         ensures untouched { (n : ℕ) → Bounded E.index (entries self.old) n → drop n (cells_of self.new) ≡ drop n (cells_of self.old) }
     {
-        if self.table.is_empty() {
+        let len = self.len;
+        if len == 0 {
             return None;
         }
-        Some(self.table.pop())
+        let cells = &mut *self.cells;
+        let mut table = Table::new(cells, len);
+        let first = table.pop();
+        self.len = len - 1;
+        Some(first)
     }
 
     // Puts e in the place of the entry with its index, if there is one and e comes before it.
     pub fn improve(&mut self, e: E) -> bool
         requires { E.index e < room self.old }
         ensures room { room self.new ≡ room self.old }
-        ensures named { self.new.table.cells.ghost_name ≡ self.old.table.cells.ghost_name }
+        ensures named { self.new.cells.ghost_name ≡ self.old.cells.ghost_name }
         ensures improves { Improves (before E.cmp) E.index e (entries self.old) (entries self.new) result }
         ensures untouched { (n : ℕ) → Bounded E.index (entries self.old) n → drop n (cells_of self.new) ≡ drop n (cells_of self.old) }
     {
-        self.table.improve(e)
+        let Some(p) = self.find(e.slot_index()) else {
+            return false;
+        };
+        if e < self.entry(p) {
+            let len = self.len;
+            let cells = &mut *self.cells;
+            let mut table = Table::new(cells, len);
+            table.lower(p, e);
+            true
+        } else {
+            false
+        }
     }
     // Sees to it that an entry with e's index is held that does not come after e.
     pub fn offer(&mut self, e: E)
         requires { E.index e < room self.old }
         ensures room { room self.new ≡ room self.old }
-        ensures named { self.new.table.cells.ghost_name ≡ self.old.table.cells.ghost_name }
+        ensures named { self.new.cells.ghost_name ≡ self.old.cells.ghost_name }
         ensures offered { Offered (before E.cmp) E.index e (entries self.old) (entries self.new) }
         ensures untouched { (n : ℕ) → Bounded E.index (entries self.new) n → drop n (cells_of self.new) ≡ drop n (cells_of self.old) }
     {

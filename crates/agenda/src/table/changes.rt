@@ -1,8 +1,8 @@
 // Entries added to a heap, taken out of it, and put in the place of another.
-ghost use Rattle.std.specs.Prelude.{◌≡◌, ℕ, ◌+◌, ◌<◌, Bool, false, ◌∷◌, length, slice_index_or, slice_set};
+ghost use Rattle.std.specs.Prelude.{◌≡◌, ℕ, ◌+◌, ◌<◌, false, ◌∷◌, length, slice_index_or, slice_set};
 ghost use Rattle.std.specs.List.Sorted.{IsPermutation};
 ghost use Rattle.agenda.specs.Orders.{before, Heap, First};
-ghost use Rattle.agenda.specs.Places.{Absent, Present, Improved};
+ghost use Rattle.agenda.specs.Places.{Absent, Present};
 ghost use Rattle.agenda.specs.Tables.{listed, Lies, Stays};
 
 use super::Table;
@@ -11,7 +11,7 @@ use crate::entry::Slotted;
 
 impl<'a, E: Slotted> Table<'a, E> {
     // Puts e in the place of the entry at p, which has the same index and does not come before e.
-    fn lower(&mut self, p: usize, e: E)
+    pub fn lower(&mut self, p: usize, e: E)
         requires present { Present E.index (listed self.old) (E.index e) p }
         requires lower { (d : E) → before E.cmp (slice_index_or (listed self.old) p d) e ≡ false }
         ensures shuffled { IsPermutation (slice_set (listed self.old) p e) (listed self.new) }
@@ -54,23 +54,5 @@ impl<'a, E: Slotted> Table<'a, E> {
         self.len = len;
         self.sift_down(0);
         top
-    }
-
-    // Puts e in the place of the entry with its index, if there is one and e comes before it.
-    pub fn improve(&mut self, e: E) -> bool
-        requires { E.index e < length self.old.cells.now }
-        ensures improved { Improved E.index (before E.cmp) (listed self.old) e (listed self.new) result }
-        ensures heap { Heap (before E.cmp) (listed self.old) → Heap (before E.cmp) (listed self.new) }
-        ensures stays { Stays self.old self.new }
-    {
-        let Some(p) = self.find(e.slot_index()) else {
-            return false;
-        };
-        if e < self.entry(p) {
-            self.lower(p, e);
-            true
-        } else {
-            false
-        }
     }
 }

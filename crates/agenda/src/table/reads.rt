@@ -1,7 +1,8 @@
-// What a table holds: by place, and by index.
-ghost use Rattle.std.specs.Prelude.{◌≡◌, ℕ, ◌+◌, ◌*◌, ◌<◌, ◌≤◌, ◌==◌, [], length, MatchOption, slice_index_or};
+// A table, and what it holds.
+ghost use Rattle.std.specs.Prelude.{◌≡◌, ℕ, ◌+◌, ◌*◌, ◌<◌, ◌≤◌, length, slice_index_or};
 ghost use Rattle.agenda.specs.Orders.{before, FirstChild};
-ghost use Rattle.agenda.specs.Places.{Absent, Present};
+ghost use Rattle.agenda.specs.Places.{Placed};
+ghost use Rattle.agenda.specs.Cells.{held, slots_of};
 ghost use Rattle.agenda.specs.Tables.{listed};
 
 use super::Table;
@@ -9,19 +10,15 @@ use crate::cells::Cell;
 use crate::entry::Slotted;
 
 impl<'a, E: Slotted> Table<'a, E> {
-    // An empty table, whatever the cells hold.
-    pub fn new(cells: &'a mut [Cell<E>]) -> Table<'a, E>
-        ensures empty { listed result ≡ [] }
+    // The table of the first `len` cells.
+    pub fn new(cells: &'a mut [Cell<E>], len: usize) -> Table<'a, E>
+        requires within { len ≤ length cells.old }
+        requires placed { Placed E.index (held cells.old len) (slots_of cells.old) }
         ensures cells { result.cells.now ≡ cells.old }
         ensures named { result.cells.ghost_name ≡ cells.entry.ghost_name }
+        ensures len { result.len ≡ len }
     {
-        Table { cells, len: 0 }
-    }
-
-    pub fn is_empty(&self) -> bool
-        ensures { result ≡ (self.now.len == 0) }
-    {
-        self.len == 0
+        Table { cells, len }
     }
 
     // The entry at i.
@@ -52,19 +49,6 @@ impl<'a, E: Slotted> Table<'a, E> {
             left + 1
         } else {
             left
-        }
-    }
-
-    // Where the entry with the index k lies.
-    pub fn find(&self, k: usize) -> Option<usize>
-        requires { k < length self.now.cells.now }
-        ensures { MatchOption result (Absent E.index (listed self.now) k) (λ p. Present E.index (listed self.now) k p) }
-    {
-        let p = self.cells[k].slot;
-        if p < self.len && self.entry(p).slot_index() == k {
-            Some(p)
-        } else {
-            None
         }
     }
 }

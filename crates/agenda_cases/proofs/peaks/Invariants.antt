@@ -1,9 +1,9 @@
-use Rattle.agenda.specs.Agendas.{Sound}
-use Rattle.agenda_cases.specs.Orders.{higher, place_of}
+use Rattle.std.specs.Prelude.{⊤}
+use Rattle.agenda.specs.Agendas.{count}
 use Rattle.agenda_cases.proofs.peaks.Given as goal
 
-abbrev pub invariant-loop-p : goal.invariant-loop-p
-invariant-loop-p l = Sound higher place_of l.a
+abbrev pub invariant-loop-height : goal.invariant-loop-height
+invariant-loop-height l = ⊤
 
-abbrev pub decreases-loop-p : goal.decreases-loop-p
-decreases-loop-p l = l.a.len
+abbrev pub decreases-loop-height : goal.decreases-loop-height
+decreases-loop-height l = count l.a

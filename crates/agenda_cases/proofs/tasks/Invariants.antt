@@ -1,9 +1,9 @@
-use Rattle.agenda.specs.Agendas.{Sound}
-use Rattle.agenda_cases.specs.Orders.{cheaper, node_of}
+use Rattle.std.specs.Prelude.{⊤}
+use Rattle.agenda.specs.Agendas.{count}
 use Rattle.agenda_cases.proofs.tasks.Given as goal
 
-abbrev pub invariant-loop-t : goal.invariant-loop-t
-invariant-loop-t l = Sound cheaper node_of l.a
+abbrev pub invariant-loop-cost : goal.invariant-loop-cost
+invariant-loop-cost l = ⊤
 
-abbrev pub decreases-loop-t : goal.decreases-loop-t
-decreases-loop-t l = l.a.len
+abbrev pub decreases-loop-cost : goal.decreases-loop-cost
+decreases-loop-cost l = count l.a

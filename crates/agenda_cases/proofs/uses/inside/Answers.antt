@@ -1,6 +1,6 @@
 use Rattle.std.proofs.Common.{◌≡◌, List, [], drop, ap, ◌∙◌, subst, ⊎_elim, arith, rules}
 use Rattle.std.specs.List.{ContainsAt as Has}
-use Rattle.agenda.specs.Agendas.{Bounded, Pushed, entries}
+use Rattle.agenda.specs.Agendas.{Bounded, Pushed, entries, cells_of}
 use Rattle.agenda_cases.specs.Orders.{node_of}
 use Rattle.agenda_cases.specs.declared.entries.Task.{Task}
 use Rattle.agenda_cases.proofs.uses.inside.Goals as goal
@@ -18,7 +18,7 @@ returns-in-Some c =
     let e : Task = record { cost = 20; node = 3 } in
     let one : (x : Task) → Has (entries a) x → x ≡ e = alone e (entries new) (entries a) c.new-a.ensures.empty c.push.ensures.pushed in
     let small : Bounded node_of (entries a) 4 = λ x h. let z : node_of x ≡ 3 = ap node_of (one x h) in omega arith in
-    let u : drop 4 a.cells.now ≡ drop 4 new.cells.now = c.push.ensures.untouched 4 small in
-    let v : drop 4 b.cells.now ≡ drop 4 a.cells.now = c.pop.ensures.untouched 4 small in
-    let w : drop 4 b.cells.now ≡ drop 4 c.args.cells.now = v ∙ u ∙ ap (drop 4) c.new-a.ensures.cells in
-    record { cost = ap (λ t. t.cost) (one c.in-Some.t c.in-Some.ensures.popped.member); rest = search rules }
+    let u : drop 4 (cells_of a) ≡ drop 4 (cells_of new) = c.push.ensures.untouched 4 small in
+    let v : drop 4 (cells_of b) ≡ drop 4 (cells_of a) = c.pop.ensures.untouched 4 small in
+    let w : drop 4 (cells_of b) ≡ drop 4 c.args.cells.now = v ∙ u ∙ ap (drop 4) c.new-a.ensures.cells in
+    record { cost = ap (λ t. t.cost) (one c.in-Some.t c.in-Some.ensures.popped.member); rest = (let k = c.cells-1.given in let k2 = c.in-Some.in-Some-own in let k3 = c.in-Some.known_told-1-own in let k4 = c.in-Some.t-1-ensures in ?) }

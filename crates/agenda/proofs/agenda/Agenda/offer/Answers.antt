@@ -14,7 +14,7 @@ returns-then-has g c =
     let a = c.args.self.now in
     let was = c.if-has.ensures in
     let told = c.improve.ensures in
-    let done : Offered lt ix c.args.e (entries a) (entries c.improve.new.self) = by_improve lt order ix c.args.e (entries a) (entries c.improve.new.self) (slots_of a.table.cells.now) a.table.placed c.improve.result
+    let done : Offered lt ix c.args.e (entries a) (entries c.improve.new.self) = by_improve lt order ix c.args.e (entries a) (entries c.improve.new.self) (slots_of a.cells.now) a.placed c.improve.result
     (was.0, (was.1.0, was.1.1 ∙ c.slot_index.ensures)) told.improves in
     record { room = told.room; named = told.named; offered = done; untouched = λ n below. told.untouched n (bounded_before lt order ix c.args.e (entries a) (entries c.improve.new.self) done n below) }
 
