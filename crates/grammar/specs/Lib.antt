@@ -10,6 +10,7 @@ pub mod Checks
 pub mod Loads
 pub mod Stopping
 pub mod Entries
+pub mod Lists
 pub mod Theorems
 pub mod Tested
 pub mod Held

@@ -58,7 +58,6 @@ pub(crate) fn dimension_of(dimensions: &[u8], category: u8) -> u8
 
 // Every constituent of every argument is named.
 pub(crate) fn names_each(dimensions: &[u8], arguments: &[u8], constituents: &[Constituent]) -> bool
-    requires { length arguments.now ≤ 3 }
     ensures { result ≡ names_all dimensions.now arguments.now (map entries constituents.now) }
 {
     arguments.iter().enumerate().all(|(i, category)| {

@@ -1,7 +1,7 @@
 // A grammar from its pack, in one pass.
 ghost use Rattle.std.specs.Prelude.{◌≡◌, Ok, Err, MatchResult};
 ghost use Rattle.grammar.specs.Commands.{Bytes};
-ghost use Rattle.grammar.specs.Drafts.{model_of};
+ghost use Rattle.grammar.specs.Drafts.{Between, model_of};
 ghost use Rattle.grammar.specs.Loaders.{draft_of};
 ghost use Rattle.grammar.specs.Loads.{load_of, unread};
 ghost use Rattle.grammar.specs.Model.{model};
@@ -28,7 +28,7 @@ impl Unread {
 // What the whole pack leads to.
 #[tactic(auto, using(crate::proofs::Typed::typed_bytes))]
 fn take_all(pack: &[u8]) -> Result<Loader, PackStop>
-    ensures value { MatchResult result (λ l. load_of pack.now ≡ Ok (model_of (draft_of l))) (λ e. load_of pack.now ≡ Err (told e)) }
+    ensures value { MatchResult result (λ l. (l.stage ≡ Between) × (load_of pack.now ≡ Ok (model_of (draft_of l)))) (λ e. load_of pack.now ≡ Err (told e)) }
     ensures bytes { Bytes pack.now }
 {
     let mut loader = Loader::new();

@@ -1,11 +1,13 @@
 // One command more: it moves the load on, or stops it.
-ghost use Rattle.std.specs.Prelude.{◌≡◌, ◌<◌, ◌≤◌, true, length, if◌then◌else◌, nat_lt, slice_index};
+ghost use Rattle.std.specs.Prelude.{◌≡◌, ◌<◌, ◌≤◌, true, length, map, OnOk, if◌then◌else◌, nat_lt, slice_index};
 ghost use Rattle.grammar.specs.Limits.{most_categories};
 ghost use Rattle.grammar.specs.declared.stops.PackStop.TheVariants.{Misplaced, TooMany};
-ghost use Rattle.grammar.specs.Checks.{fills_all};
-ghost use Rattle.grammar.specs.Commands.{Category, Constituent, Part, Production as Opens, Start, Token};
-ghost use Rattle.grammar.specs.Drafts.{Between, Body, Categories, Fresh, Head, blank, model_of};
-ghost use Rattle.grammar.specs.Grammars.{dimension};
+ghost use Rattle.grammar.specs.Checks.{fills_all, is_open};
+ghost use Rattle.grammar.specs.Commands.{Category, Constituent, Part, Production as Opens, Start, Token, is_end};
+ghost use Rattle.grammar.specs.Drafts.{Between, Body, Categories, Fresh, Head, blank, model_of, with_symbol};
+ghost use Rattle.grammar.specs.Grammars.{dimension, no_production};
+ghost use Rattle.grammar.specs.Entries.{entries};
+ghost use Rattle.grammar.specs.Lists.{last_or};
 ghost use Rattle.grammar.specs.Loaders.{Closed, Stepped, draft_of};
 ghost use Rattle.grammar.specs.Held.{production_model};
 ghost use Rattle.grammar.specs.Model.{model};
@@ -14,8 +16,8 @@ ghost use Rattle.grammar.specs.Tested.{formed};
 use crate::command::{Command, Operands};
 use crate::filling::{dimension_of, each_has_some, names_each};
 use crate::held::Grammar;
-use crate::loader::{Loader, OpenProduction};
-use crate::production::Production;
+use crate::loader::Loader;
+use crate::production::{Constituent, Production};
 use crate::stage::Stage;
 use crate::stops::PackStop;
 use crate::symbol::Symbol;
@@ -32,16 +34,25 @@ impl Loader {
             dimensions: ArrayVec::new(),
             start: 0,
             productions: ArrayVec::new(),
-            opened: OpenProduction::new(0, Operands::default()),
+            offset: 0,
         }
     }
 
-    // The dimension of the open production's category.
+    // The production that is open.
+    fn opened(&self) -> &Production
+        requires { is_open self.now.stage ≡ true }
+        ensures { production_model result.now ≡ last_or no_production (map production_model (entries self.now.productions)) }
+    {
+        &self.productions[self.productions.len() - 1]
+    }
+
+    // The dimension of its category.
     fn open_dimension(&self) -> u8
-        ensures value { result ≡ dimension (draft_of self.now).dimensions self.now.opened.category }
+        requires { is_open self.now.stage ≡ true }
+        ensures value { result ≡ dimension (draft_of self.now).dimensions (draft_of self.now).opened.category }
         ensures most { result ≤ 2 }
     {
-        dimension_of(self.dimensions.as_slice(), self.opened.category)
+        dimension_of(self.dimensions.as_slice(), self.opened().category())
     }
 
     fn add_category(&mut self, at: usize, dimension: u8) -> Result<(), PackStop>
@@ -98,19 +109,21 @@ impl Loader {
         requires { self.old.stage ≡ Body }
         ensures { Closed self.old result self.new }
     {
-        let production = self.opened.production();
-        let offset = self.opened.offset;
-        if !self.fills(&production) {
-            return Err(PackStop::Unfilled { production: offset });
+        let opened = self.opened();
+        if !self.fills(opened) {
+            return Err(PackStop::Unfilled {
+                production: self.offset,
+            });
         }
         if !names_each(
             self.dimensions.as_slice(),
-            production.arguments(),
-            production.constituents(),
+            opened.arguments(),
+            opened.constituents(),
         ) {
-            return Err(PackStop::Unnamed { production: offset });
+            return Err(PackStop::Unnamed {
+                production: self.offset,
+            });
         }
-        self.productions.push(production);
         self.stage = Stage::Between;
         Ok(())
     }
@@ -125,7 +138,8 @@ impl Loader {
         if !operands.fit(self.dimensions.len()) {
             return Err(PackStop::BadOperand { at });
         }
-        self.opened = OpenProduction::new(at, operands);
+        self.productions.push(Production::new(operands));
+        self.offset = at;
         self.stage = Stage::Head;
         Ok(())
     }
@@ -137,33 +151,55 @@ impl Loader {
         if self.open_dimension() == 0 {
             return Err(PackStop::TooMany { at });
         }
-        self.opened.begin_first();
+        let last = self.productions.len() - 1;
+        self.productions[last].open_constituent();
         self.stage = Stage::Body;
         Ok(())
+    }
+
+    // The symbols of the constituent that is open.
+    fn current(&self) -> &Constituent
+        requires { self.now.stage ≡ Body }
+        ensures value { entries result.now ≡ (draft_of self.now).opened.current }
+    {
+        let constituents = self.opened().constituents();
+        &constituents[constituents.len() - 1]
     }
 
     fn open_next(&mut self, at: usize) -> Result<(), PackStop>
         requires { self.old.stage ≡ Body }
         ensures { Stepped at self.old Constituent result self.new }
     {
-        if self.opened.closed.len() + 1 >= self.open_dimension() as usize {
+        if self.opened().constituents().len() >= self.open_dimension() as usize {
             return Err(PackStop::TooMany { at });
         }
-        if self.opened.current.is_empty() {
+        if self.current().is_empty() {
             return Err(PackStop::Misplaced { at });
         }
-        self.opened.begin_next();
+        let last = self.productions.len() - 1;
+        self.productions[last].open_constituent();
         Ok(())
+    }
+
+    // Adds a symbol to the constituent that is open.
+    fn add_symbol(&mut self, symbol: Symbol)
+        requires body { self.old.stage ≡ Body }
+        requires room { length (draft_of self.old).opened.current < 8 }
+        ensures stage { self.new.stage ≡ Body }
+        ensures draft { draft_of self.new ≡ with_symbol (draft_of self.old) symbol }
+    {
+        let last = self.productions.len() - 1;
+        self.productions[last].add_symbol(symbol);
     }
 
     fn add_token(&mut self, at: usize, token: u16) -> Result<(), PackStop>
         requires { self.old.stage ≡ Body }
         ensures { Stepped at self.old (Token token) result self.new }
     {
-        if self.opened.current.is_full() {
+        if self.current().is_full() {
             return Err(PackStop::TooMany { at });
         }
-        self.opened.add_symbol(Symbol::Token(token));
+        self.add_symbol(Symbol::Token(token));
         Ok(())
     }
 
@@ -171,14 +207,14 @@ impl Loader {
         requires { self.old.stage ≡ Body }
         ensures { Stepped at self.old (Part argument constituent) result self.new }
     {
-        if self.opened.current.is_full() {
+        if self.current().is_full() {
             return Err(PackStop::TooMany { at });
         }
         let dimensions = self.dimensions.as_slice();
-        if !self.opened.part_fits(dimensions, argument, constituent) {
+        if !self.opened().part_fits(dimensions, argument, constituent) {
             return Err(PackStop::BadOperand { at });
         }
-        self.opened.add_symbol(Symbol::Part {
+        self.add_symbol(Symbol::Part {
             argument,
             constituent,
         });
@@ -187,7 +223,8 @@ impl Loader {
 
     // Takes the command that stands at the offset `at`.
     pub(crate) fn take(&mut self, at: usize, command: Command) -> Result<(), PackStop>
-        ensures { Stepped at self.old command result self.new }
+        ensures stepped { Stepped at self.old command result self.new }
+        ensures closed { OnOk result (is_end command ≡ true → self.new.stage ≡ Between) }
     {
         match (self.stage, command) {
             (Stage::Fresh, Command::Kind { kind }) => {
@@ -207,7 +244,7 @@ impl Loader {
             }
             (Stage::Head, Command::Production(_)) | (Stage::Head, Command::End) => {
                 Err(PackStop::Unfilled {
-                    production: self.opened.offset,
+                    production: self.offset,
                 })
             }
             (Stage::Head, Command::Constituent) => self.open_first(at),
@@ -228,7 +265,8 @@ impl Loader {
 
     // The grammar that was read.
     pub(crate) fn finish(self) -> Grammar
-        requires { formed (model_of (draft_of self)) ≡ true }
+        requires closed { self.stage ≡ Between }
+        requires formed { formed (model_of (draft_of self)) ≡ true }
         ensures { model result ≡ model_of (draft_of self) }
     {
         Grammar {

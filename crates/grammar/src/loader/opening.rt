@@ -1,14 +1,13 @@
 // The production that is open, and what its operands must be.
 ghost use Rattle.std.specs.Prelude.{◌≡◌, ℕ, ◌+◌, ◌<◌, ◌≤◌, Bool, [], ◌∷◌, ◌++◌, map, length, take};
 ghost use Rattle.grammar.specs.Checks.{argument_fits, part_fits, production_fits};
-ghost use Rattle.grammar.specs.Drafts.{Body, beginning, opening, constituents_so_far, one_more, open_production};
 ghost use Rattle.grammar.specs.Entries.{entries};
 ghost use Rattle.grammar.specs.Held.{production_model};
-ghost use Rattle.grammar.specs.Loaders.{opened_of};
+ghost use Rattle.grammar.specs.Lists.{all_but_last, last_or};
+ghost use Rattle.grammar.specs.Loaders.{bare, with_constituents};
 
 use crate::command::Operands;
 use crate::filling::dimension_of;
-use crate::loader::OpenProduction;
 use crate::production::{Constituent, Production};
 use crate::symbol::Symbol;
 use arrayvec::ArrayVec;
@@ -47,57 +46,36 @@ impl Operands {
     }
 }
 
-impl OpenProduction {
+impl Production {
     // None of its constituents is open.
-    pub(crate) fn new(offset: usize, operands: Operands) -> OpenProduction
-        ensures { opened_of result ≡ opening offset operands }
+    pub(crate) fn new(operands: Operands) -> Production
+        ensures { production_model result ≡ bare operands }
     {
-        OpenProduction {
-            offset,
+        Production {
             category: operands.category,
             weight: operands.weight,
             arguments: operands.arguments(),
-            closed: ArrayVec::new(),
-            current: Constituent::new(),
+            constituents: ArrayVec::new(),
         }
     }
 
-    // The production as it stands, its current constituent the last. It is a copy, since a draft keeps what was opened.
-    pub(crate) fn production(&self) -> Production
-        ensures { production_model result ≡ open_production Body (opened_of self.now) }
+    // Opens its next constituent.
+    pub(crate) fn open_constituent(&mut self)
+        requires { length (entries self.old.constituents) < 2 }
+        ensures { production_model self.new ≡ with_constituents (production_model self.old) ((production_model self.old).constituents ++ [] ∷ []) }
     {
-        let mut constituents = self.closed.clone().unwrap();
-        constituents.push(self.current.clone().unwrap());
-        Production {
-            category: self.category,
-            weight: self.weight,
-            arguments: self.arguments.clone().unwrap(),
-            constituents,
-        }
+        self.constituents.push(Constituent::new());
     }
 
-    // Opens the first constituent.
-    pub(crate) fn begin_first(&mut self)
-        ensures { opened_of self.new ≡ beginning (opened_of self.old) [] }
-    {
-        self.closed.clear();
-        self.current.clear();
-    }
-
-    // Closes the current constituent and opens the next.
-    pub(crate) fn begin_next(&mut self)
-        requires { length (entries self.old.closed) < 1 }
-        ensures { opened_of self.new ≡ beginning (opened_of self.old) (constituents_so_far Body (opened_of self.old)) }
-    {
-        let current = self.current.take();
-        self.closed.push(current);
-    }
-
+    // Adds a symbol to its last constituent.
     pub(crate) fn add_symbol(&mut self, symbol: Symbol)
-        requires { length (entries self.old.current) < 8 }
-        ensures { opened_of self.new ≡ one_more (opened_of self.old) symbol }
+        requires some { 1 ≤ length (entries self.old.constituents) }
+        requires room { length (last_or [] (production_model self.old).constituents) < 8 }
+        ensures { production_model self.new ≡ with_constituents (production_model self.old)
+            (all_but_last (production_model self.old).constituents ++ (last_or [] (production_model self.old).constituents ++ symbol ∷ []) ∷ []) }
     {
-        self.current.push(symbol);
+        let last = self.constituents.len() - 1;
+        self.constituents[last].push(symbol);
     }
 
     // The operands of a PART.

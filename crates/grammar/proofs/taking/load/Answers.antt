@@ -8,15 +8,15 @@ use Rattle.grammar.proofs.Formed.{is_formed}
 use Rattle.grammar.proofs.Answering.{loaded}
 use Rattle.grammar.proofs.taking.load.Goals as goal
 
-pub finish-requires : goal.finish-requires
-finish-requires c =
+pub finish-requires-clause-formed : goal.finish-requires-clause-formed
+finish-requires-clause-formed c =
     let m = model_of (draft_of c.in_ok-take_all.field-0) in
-    is_formed m (loads_are_packs c.args.pack.now m c.in_ok-take_all.ensures.bytes c.in_ok-take_all.ensures.value).0
+    is_formed m (loads_are_packs c.args.pack.now m c.in_ok-take_all.ensures.bytes c.in_ok-take_all.ensures.value.1).0
 
 pub returns-clause-law : goal.returns-clause-law
 returns-clause-law c =
     loaded c.args.pack.now c.in_ok-take_all.ensures.bytes (Ok c.finish.result)
-    (c.in_ok-take_all.ensures.value ∙ ap {B = Outcome} (λ m. Ok m) (sym c.finish.ensures))
+    (c.in_ok-take_all.ensures.value.1 ∙ ap {B = Outcome} (λ m. Ok m) (sym c.finish.ensures))
 
 pub returns-in_err-take_all-clause-law : goal.returns-in_err-take_all-clause-law
 returns-in_err-take_all-clause-law c =

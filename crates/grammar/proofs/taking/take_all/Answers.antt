@@ -27,7 +27,7 @@ loop-command-preserved c =
     let left = shorter_left c.args.pack.now l.rest.now c.in_ok-command.more.now c.in_ok-command.command l.invariant.0 next in (
       left,
       run_left c.args.pack.now l.rest.now c.in_ok-command.more.now c.in_ok-command.command l.invariant.0 next
-          l.loader.stage (draft_of l.loader) (m.stage, draft_of m) l.invariant.1 c.in_ok-take.ensures (sym c.if-is_end.ensures),
+          l.loader.stage (draft_of l.loader) (m.stage, draft_of m) l.invariant.1 c.in_ok-take.ensures.stepped (sym c.if-is_end.ensures),
     )
 
 pub returns-in_err-take-clause-value : goal.returns-in_err-take-clause-value
@@ -38,5 +38,5 @@ returns-in_err-take-clause-value c =
     let p = err_from_is_err_and c.from_residual-in_err-take.result c.from_residual-in_err-take.ensures.1 in
     let stopped =
     l.invariant.1
-    ∙ load_stop _ l.loader.stage (draft_of l.loader) l.rest.now c.in_ok-command.more.now c.in_ok-command.command _ next c.in_err-take.ensures in
+    ∙ load_stop _ l.loader.stage (draft_of l.loader) l.rest.now c.in_ok-command.more.now c.in_ok-command.command _ next c.in_err-take.ensures.stepped in
     rw (p.1, p.2) stopped
