@@ -8,6 +8,7 @@ use Rattle.grammar.specs.Trees.{spell, tokens_in}
 use Rattle.replay.specs.Stops.{stop_at}
 use Rattle.replay.specs.Replays.{Yield, Yields, most_tokens, fit, put, categories_on, strings_on, tokens_on, perform}
 use Rattle.replay.specs.Shapes.{Shape, size, total, cut, laid_out, Put}
+use Rattle.replay.specs.declared.stack.Stack.{Stack}
 use Rattle.replay.specs.Stacks.{NoneEmpty}
 use Rattle.replay.proofs.Laid.{categories, categories_laid, length_laid, take_laid, drop_laid, tokens_laid, put_cut, put_size, put_behind, put_longer}
 use Rattle.replay.proofs.Tested.{perform_few, perform_other, perform_long, perform_put}
@@ -17,7 +18,16 @@ few_yields : (stack : Yields) → NoneEmpty stack → length stack ≤ tokens_on
 few_yields [] h = omega arith
 few_yields (y ∷ ys) h = omega (arith, h.0, few_yields ys h.1)
 
-module _ (r : ProductionModel) (at : ℕ) (ss : List Shape) (ts : List ℕ) (whole : total ss ≡ length ts) where
+module _ (r : ProductionModel) (at : ℕ) (s : Stack) where
+  abbrev ss : List Shape
+  ss = s.shapes.items
+
+  abbrev ts : List ℕ
+  ts = s.tokens.items
+
+  whole : total ss ≡ length ts
+  whole = s.laid
+
   abbrev n : ℕ
   n = length r.arguments
 
@@ -49,24 +59,22 @@ module _ (r : ProductionModel) (at : ℕ) (ss : List Shape) (ts : List ℕ) (who
       fit_front : (cs : List ℕ) (rs : List Shape) → fit cs (categories (take (length cs) rs)) ≡ fit cs (categories rs)
       fit_front [] rs = refl
       fit_front (c ∷ cs) [] = refl
-      fit_front (c ∷ cs) (s ∷ rs) = ap (λ b. (eqb s.category c && b)) (fit_front cs rs)
+      fit_front (c ∷ cs) (q ∷ rs) = ap (λ b. (eqb q.category c && b)) (fit_front cs rs)
 
-  -- what the code takes from the top
-  module _ (arguments : List ℕ) (held shapes : List Shape) (a-is : arguments ≡ r.arguments) (h-is : held ≡ ss) (s-is : shapes ≡ slice_range held 0 (length arguments)) where
-    shapes_are : shapes ≡ take n ss
-    shapes_are =
-        let z : length arguments - 0 ≡ n = omega (arith, ap length a-is) in
-        s-is ∙ ap₂ (λ (k : ℕ) (rs : List Shape). take k rs) z h-is
+  -- what is taken from the top
+  pub shapes_are : (arguments : List ℕ) (held shapes : List Shape) → arguments ≡ r.arguments → held ≡ ss → shapes ≡ slice_range held 0 (length arguments) → shapes ≡ take n ss
+  shapes_are arguments held shapes a-is h-is s-is =
+      let z : length arguments - 0 ≡ n = omega (arith, ap length a-is) in
+      s-is ∙ ap₂ (λ (k : ℕ) (rs : List Shape). take k rs) z h-is
 
-    pub fit_taken : fit arguments (categories shapes) ≡ fit r.arguments (categories (take n ss))
-    fit_taken = ap₂ (λ a s. fit a (categories s)) a-is shapes_are
+  module _ (shapes : List Shape) (tokens : List ℕ) where
+    pub strings_are : (constituents : List (List Symbol)) → shapes ≡ take n ss → tokens ≡ ts → constituents ≡ r.constituents
+        → map (spell (strings_on (laid_out shapes tokens))) constituents ≡ map (spell (strings_on (take n stack))) r.constituents
+    strings_are constituents s-is t-is c-is =
+        ap₂ (λ (ys : Yields) (cs : List (List Symbol)). map (spell (strings_on ys)) cs) (ap₂ laid_out s-is t-is ∙ sym (take_laid n ss ts)) c-is
 
-    module _ (tokens : List ℕ) (constituents : List (List Symbol)) (sum : ℕ) (t-is : tokens ≡ ts) (c-is : constituents ≡ r.constituents) (sum-is : sum ≡ total shapes) where
-      pub strings_are : map (spell (strings_on (laid_out shapes tokens))) constituents ≡ map (spell (strings_on (take n stack))) r.constituents
-      strings_are = ap₂ (λ (ys : Yields) (cs : List (List Symbol)). map (spell (strings_on ys)) cs) (ap₂ laid_out shapes_are t-is ∙ sym (take_laid n ss ts)) c-is
-
-      pub behind_is : take (length tokens - sum) (drop sum tokens) ≡ behind
-      behind_is = take_rest tokens sum ∙ ap₂ (λ (k : ℕ) (us : List ℕ). drop k us) (sum-is ∙ ap total shapes_are) t-is
+    pub behind_is : (sum : ℕ) → shapes ≡ take n ss → tokens ≡ ts → sum ≡ total shapes → take (length tokens - sum) (drop sum tokens) ≡ behind
+    behind_is sum s-is t-is sum-is = take_rest tokens sum ∙ ap₂ (λ (k : ℕ) (us : List ℕ). drop k us) (sum-is ∙ ap total s-is) t-is
 
   module _ (enough : n ≤ length ss) where
     pub enough_on : n ≤ length stack

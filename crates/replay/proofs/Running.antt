@@ -68,31 +68,11 @@ module _ (g : GrammarModel) where
   one_command at (a ∷ b ∷ c ∷ []) later stack n e = ap (λ (r : Result Yields Stop). and_then r (command g at a b c)) e
   one_command at (a ∷ b ∷ c ∷ d ∷ bytes) later stack n e = absurd (omega arith)
 
-  -- the commands behind the rest have been run, and its last one is next
-  module _ (list rest later before bytes : List ℕ) (stack : Yields) (whole : list ≡ rest ++ later) (ran : run g (length rest) later ≡ Ok stack)
-      (front : before ≡ take (length rest - 3) rest) (last : bytes ≡ drop (length rest - 3) rest) (less : length before + 3 ≡ length rest) where
-    parted : rest ≡ before ++ bytes
-    parted = sym (take-append-drop (length rest - 3) rest) ∙ sym (ap₂ (λ (a b : List ℕ). a ++ b) front last)
-
-    pub next_whole : list ≡ before ++ (bytes ++ later)
-    next_whole = whole ∙ ap (λ (a : List ℕ). a ++ later) parted ∙ append_assoc before bytes later
-
-    pub next_is : run g (length before) (bytes ++ later) ≡ does g bytes (length before) stack
-    next_is =
-        one_command (length before) bytes later stack (omega (arith, ap length parted, length-append before bytes))
-        (ap (λ (n : ℕ). run g n later) less ∙ ran)
-
-    pub next_stops : (o : Stop) → length rest % 3 ≡ 0 → does g bytes (length before) stack ≡ Err o → run g 0 list ≡ Err o
-    next_stops o w e =
-        ap (run g 0) next_whole ∙ stops_behind 0 before (bytes ++ later) o (omega arith) (ap (λ (n : ℕ). run g n (bytes ++ later)) zero_on ∙ next_is ∙ e)
-      where
-        zero_on : 0 + length before ≡ length before
-        zero_on = omega arith
-
+  module _ (list rest later : List ℕ) (stack : Yields) (whole : list ≡ rest ++ later) (ran : run g (length rest) later ≡ Ok stack) where
     -- what performing the production asks for
-    pub can_perform : WellFormed g → Bytes list → length list % 3 ≡ 0 → length rest % 3 ≡ 0 → (at : ℕ) (r : ProductionModel) → Names g bytes at r
+    pub can_perform : WellFormed g → Bytes list → length list % 3 ≡ 0 → length rest % 3 ≡ 0 → (at : ℕ) (bytes : List ℕ) (r : ProductionModel) → Names g bytes at r
         → OneOrTwo (length r.constituents) × (fit r.arguments (categories_on stack) ≡ true → NoneEmpty (put r stack))
-    can_perform well typed third w at r names = (
+    can_perform well typed third w at bytes r names = (
       subst (λ (q : ProductionModel). OneOrTwo (length q.constituents)) names.held (constituents_few g well names.number names.known),
       subst (λ (q : ProductionModel). fit q.arguments (categories_on stack) ≡ true → NoneEmpty (put q stack)) names.held filled,
     )
@@ -103,3 +83,23 @@ module _ (g : GrammarModel) where
             (omega (arith, ap length whole, length-append rest later)) ran in
             let put_on = stand_put g names.number ran-is.forest stack names.known ran-is.stands f in
             none_empty g well put_on.forest (put (production g names.number) stack) put_on.stands
+
+  -- the commands behind the rest have been run, and its last one is next
+  module _ (list rest later before bytes : List ℕ) (stack : Yields) (whole : list ≡ rest ++ later) (ran : run g (length rest) later ≡ Ok stack)
+      (front : before ≡ take (length rest - 3) rest) (last : bytes ≡ drop (length rest - 3) rest) (less : length before + 3 ≡ length rest) where
+    parted : rest ≡ before ++ bytes
+    parted = sym (take-append-drop (length rest - 3) rest) ∙ sym (ap₂ (λ (a b : List ℕ). a ++ b) front last)
+
+    -- where it stands, and what it does to the stack
+    pub next_is : (list ≡ before ++ (bytes ++ later)) × (run g (length before) (bytes ++ later) ≡ does g bytes (length before) stack)
+    next_is = (
+      whole ∙ ap (λ (a : List ℕ). a ++ later) parted ∙ append_assoc before bytes later,
+      one_command (length before) bytes later stack (omega (arith, ap length parted, length-append before bytes)) (ap (λ (n : ℕ). run g n later) less ∙ ran),
+    )
+
+    pub next_stops : (o : Stop) → length rest % 3 ≡ 0 → does g bytes (length before) stack ≡ Err o → run g 0 list ≡ Err o
+    next_stops o w e =
+        ap (run g 0) next_is.0 ∙ stops_behind 0 before (bytes ++ later) o (omega arith) (ap (λ (n : ℕ). run g n (bytes ++ later)) zero_on ∙ next_is.1 ∙ e)
+      where
+        zero_on : 0 + length before ≡ length before
+        zero_on = omega arith

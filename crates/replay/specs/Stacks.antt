@@ -2,7 +2,8 @@
 --   strings_of f               the strings of each yield of f
 --   stack_of s                 the yields on the stack s
 --   NoneEmpty stack            each yield has a token
---   Names g bytes at r         the command of these bytes, at the offset at, performs the production r of the grammar g
+--   does g bytes at stack      what the command of these bytes, at the offset at, does to the stack
+--   Names g bytes at r         that command performs the production r of the grammar g
 --   Unnamed g bytes at o       it performs none, and this is its stop
 --   Made r s tokens lengths    these are the tokens after the command of the production r on the stack s, and the lengths of its strings
 --   Stops r at s e             that command, at the offset at, gives this stop

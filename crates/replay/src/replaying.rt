@@ -21,10 +21,10 @@ fn named(grammar: &Grammar, command: [u8; 3], at: usize) -> Result<&Production, 
     let [COMMAND, high, low] = command else {
         return Err(ReplayStop::NoCommand { at });
     };
-    let number = u16::from_be_bytes([high, low]);
+    let number = usize::from(u16::from_be_bytes([high, low]));
     grammar
         .productions()
-        .get(number as usize)
+        .get(number)
         .ok_or(ReplayStop::NoProduction { at })
 }
 

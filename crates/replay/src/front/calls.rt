@@ -26,7 +26,7 @@ impl<'a> Front<'a> {
             return &[];
         };
         let start = total(&self.shapes[..k]) + joined(&shape.lengths[..l]);
-        &self.tokens[start..start + *length as usize]
+        &self.tokens[start..start + usize::from(*length)]
     }
 
     // What a symbol gives.
@@ -42,8 +42,8 @@ impl<'a> Front<'a> {
                 constituent,
             } => {
                 // A symbol counts both from 1.
-                let k = (*argument as usize).saturating_sub(1);
-                let l = (*constituent as usize).saturating_sub(1);
+                let k = usize::from(*argument).saturating_sub(1);
+                let l = usize::from(*constituent).saturating_sub(1);
                 self.string(k, l)
             }
         }

@@ -10,7 +10,7 @@ pub(crate) fn joined(lengths: &[u8]) -> usize
     requires { length lengths.now ≤ 2 }
     ensures { result ≡ sum lengths.now }
 {
-    lengths.iter().map(|n| *n as usize).sum()
+    lengths.iter().map(|n| usize::from(*n)).sum()
 }
 
 // How many tokens yields of these shapes have together.

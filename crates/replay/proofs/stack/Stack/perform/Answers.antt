@@ -28,7 +28,7 @@ insert-requires c =
         omega (
           arith,
           ap length (left c),
-          performing.after_few (production_model c.args.production.now) c.args.at s.shapes.items s.tokens.items s.laid
+          performing.after_few (production_model c.args.production.now) c.args.at s
               c.in_ok-tokens.lengths.items c.in_ok-tokens.tokens.items made.put made.few (c.requires.filled made.fits),
         ),
       ),
@@ -43,7 +43,7 @@ invariant_of-self c =
     record {
       laid = ap total (c.insert.ensures.items ∙ ap (λ (ss : List Shape). x ∷ ss) e)
           ∙ sum_by-cons size x (drop (length (production_model c.args.production.now).arguments) s.shapes.items)
-          ∙ performing.after_whole (production_model c.args.production.now) c.args.at s.shapes.items s.tokens.items s.laid
+          ∙ performing.after_whole (production_model c.args.production.now) c.args.at s
           c.in_ok-tokens.lengths.items c.in_ok-tokens.tokens.items made.put;
     }
 
@@ -52,6 +52,6 @@ returns c =
     let s = c.args.self.now in
     let made = c.in_ok-tokens.ensures in
     let x : Shape = record { category = c.category.result; lengths = c.in_ok-tokens.lengths } in
-    performing.performed (production_model c.args.production.now) c.args.at s.shapes.items s.tokens.items s.laid
+    performing.performed (production_model c.args.production.now) c.args.at s
     c.in_ok-tokens.lengths.items c.in_ok-tokens.tokens.items made.put x made.few made.enough made.fits c.category.ensures refl
     ∙ ap {B = Result Yields Stop} (λ (ss : List Shape). Ok (laid_out ss c.in_ok-tokens.tokens.items)) (sym (c.insert.ensures.items ∙ ap (λ (ss : List Shape). x ∷ ss) (left (goal.at.returns c).After-category)))

@@ -1,29 +1,39 @@
-use Rattle.std.proofs.Common.{◌≤◌, ◌++◌, map, length, ap, ap₂, sym, ◌∙◌, arith, inl, inr, Ok, Err, Result, MatchResult}
+use Rattle.std.proofs.Common.{◌≡◌, ◌≤◌, ◌++◌, map, length, take, ap, ap₂, sym, ◌∙◌, arith, inl, inr, Ok, Err, Result, MatchResult}
 use Rattle.std.specs.List.{concat}
 use Rattle.std.specs.Result.{result_or}
 use Rattle.grammar.specs.Trees.{tokens_in}
 use Rattle.replay.specs.declared.stops.ReplayStop.TheVariants.{TooLong}
 use Rattle.grammar.specs.Held.{production_model}
+use Rattle.replay.specs.Replays.{fit}
+use Rattle.replay.proofs.Laid.{categories}
 use Rattle.replay.proofs.Performing as performing
 use Rattle.replay.proofs.stack.Stack.yielded.Goals as goal
+use Rattle.replay.proofs.stack.Stack.yielded.Goals.{In-Some}
 
 pub returns-in_default : goal.returns-in_default
 returns-in_default c =
     let s = c.args.self.now in
-    performing.too_few (production_model c.args.production.now) c.args.at s.shapes.items s.tokens.items s.laid
+    performing.too_few (production_model c.args.production.now) c.args.at s
     (elim c.in_default.ensures.lookup.0 [
       | inl h ↦ absurd (omega (arith, h))
       | inr h ↦ omega (arith, h, ap length c.deref.ensures.0, ap length c.arguments-arguments.ensures)
     ])
 
+-- the shapes of the arguments
+module _ (c : In-Some) where
+  enough : length (production_model c.args.production.now).arguments ≤ length c.args.self.now.shapes.items
+  enough = omega (arith, c.in-Some.ensures.lookup.0.1, ap length c.deref.ensures.0, ap length c.arguments-arguments.ensures)
+
+  shapes : c.in-Some.shapes.now ≡ take (length (production_model c.args.production.now).arguments) c.args.self.now.shapes.items
+  shapes =
+      performing.shapes_are (production_model c.args.production.now) c.args.at c.args.self.now c.arguments-arguments.result.now c.deref.result.now c.in-Some.shapes.now
+      c.arguments-arguments.ensures c.deref.ensures.0 c.in-Some.ensures.lookup.0.2
+
 pub returns-then-not-fits : goal.returns-then-not-fits
 returns-then-not-fits c =
-    let s = c.args.self.now in
-    let h = c.in-Some.ensures.lookup in
-    performing.wrong_category (production_model c.args.production.now) c.args.at s.shapes.items s.tokens.items s.laid
-    (omega (arith, h.0.1, ap length c.deref.ensures.0, ap length c.arguments-arguments.ensures))
-    (sym (performing.fit_taken (production_model c.args.production.now) c.args.at s.shapes.items s.tokens.items s.laid
-    c.arguments-arguments.result.now c.deref.result.now c.in-Some.shapes.now c.arguments-arguments.ensures c.deref.ensures.0 h.0.2) ∙ sym c.if-not-fits.ensures)
+    let at = (goal.at.returns-then-not-fits c).In-Some in
+    performing.wrong_category (production_model c.args.production.now) c.args.at c.args.self.now (enough at)
+    (sym (c.if-not-fits.ensures ∙ ap₂ (λ a s. fit a (categories s)) c.arguments-arguments.ensures (shapes at)))
 
 -- an answer whose error `or` puts another in the place of
 handed : {X E F : Type 0} (q : Result X E) (d : F) (P R : X → Type 0) (Q : F → Type 0) (S : E → Type 0)
@@ -33,24 +43,18 @@ handed (Err e) d P R Q S h f g = g e h
 
 pub returns : goal.returns
 returns c =
-    let s = c.args.self.now in
     let r = production_model c.args.production.now in
-    let h = c.in-Some.ensures.lookup in
-    let enough : length r.arguments ≤ length s.shapes.items = omega (arith, h.0.1, ap length c.deref.ensures.0, ap length c.arguments-arguments.ensures) in
-    let fits = sym (performing.fit_taken r c.args.at s.shapes.items s.tokens.items s.laid
-    c.arguments-arguments.result.now c.deref.result.now c.in-Some.shapes.now c.arguments-arguments.ensures c.deref.ensures.0 h.0.2) ∙ sym c.if-not-fits.ensures in
-    let strings = performing.strings_are r c.args.at s.shapes.items s.tokens.items s.laid
-    c.arguments-arguments.result.now c.deref.result.now c.in-Some.shapes.now c.arguments-arguments.ensures c.deref.ensures.0 h.0.2
-    c.as_slice-tokens.result.now _ c.total.result c.as_slice-tokens.ensures.value c.constituents.ensures c.total.ensures in
-    let behind = performing.behind_is r c.args.at s.shapes.items s.tokens.items s.laid
-    c.arguments-arguments.result.now c.deref.result.now c.in-Some.shapes.now c.arguments-arguments.ensures c.deref.ensures.0 h.0.2
-    c.as_slice-tokens.result.now _ c.total.result c.as_slice-tokens.ensures.value c.constituents.ensures c.total.ensures in
+    let s = c.args.self.now in
+    let at = (goal.at.returns c).In-Some in
+    let fits = sym (c.if-not-fits.ensures ∙ ap₂ (λ a s. fit a (categories s)) c.arguments-arguments.ensures (shapes at)) in
+    let strings = performing.strings_are r c.args.at s c.in-Some.shapes.now c.as_slice-tokens.result.now _ (shapes at) c.as_slice-tokens.ensures.value c.constituents.ensures in
+    let behind = performing.behind_is r c.args.at s c.in-Some.shapes.now c.as_slice-tokens.result.now c.total.result (shapes at) c.as_slice-tokens.ensures.value c.total.ensures in
     rw c.or.ensures
     (handed c.spell_all.result (TooLong c.args.at) _ _ _ _ c.spell_all.ensures
     (λ made put. record {
-      enough = performing.enough_on r c.args.at s.shapes.items s.tokens.items s.laid enough;
-      fits = performing.fits_on r c.args.at s.shapes.items s.tokens.items s.laid enough fits;
+      enough = performing.enough_on r c.args.at s (enough at);
+      fits = performing.fits_on r c.args.at s (enough at) fits;
       put = record { long = put.0.long ∙ ap (map length) strings; tokens = put.0.tokens ∙ ap₂ (λ ys ts. concat ys ++ ts) strings behind };
       few = put.1;
     })
-    (λ _ over. performing.too_long r c.args.at s.shapes.items s.tokens.items s.laid enough fits (omega (arith, over, ap tokens_in strings, ap length behind))))
+    (λ _ over. performing.too_long r c.args.at s (enough at) fits (omega (arith, over, ap tokens_in strings, ap length behind))))
