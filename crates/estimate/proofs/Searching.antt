@@ -1,10 +1,10 @@
 -- What the steps of a search do to what it has found. Assumes nothing.
-use Rattle.std.proofs.Common.{◌≡◌, ℕ, zero, suc, ◌+◌, ◌<◌, Bool, false, ◌⊎◌, List, [], ◌∷◌, ◌++◌, length, get_or, drop, set, replicate, Some, None, Option, sym, refl, ap, ◌∙◌, subst, inl, inr, arith, get_or-set_other, get_or-set_same}
+use Rattle.std.proofs.Common.{◌≡◌, ℕ, zero, suc, ◌+◌, ◌<◌, Bool, false, ◌⊎◌, List, [], ◌∷◌, ◌++◌, length, get_or, set, replicate, Some, None, Option, sym, refl, ap, ◌∙◌, subst, inl, inr, arith, get_or-set_other, get_or-set_same}
 use native.Mathlib.Decide.{ℕ_discrete}
 use Rattle.std.specs.List.{ContainsAt as Has}
 use Rattle.weight.specs.Algebra.{Algebra, Lawful, Le, Within}
 use Rattle.weight.proofs.Orders.{le_first, le_trans, lt_le, le_lt, lt_le_lt, cases, plus_none}
-use Rattle.std.proofs.lemmas.List.{get_or-replicate, get_or_past, length-map, length-replicate, length-append, nil_from_length, append-nil, append_assoc}
+use Rattle.std.proofs.lemmas.List.{get_or-replicate, get_or_past, length-map, length-replicate, append-nil, append_assoc}
 use Rattle.std.proofs.lemmas.Bool.{cases_lt}
 use Rattle.agenda.specs.declared.agenda.Agenda.{Agenda}
 use Rattle.agenda.specs.Agendas.{Taken, Sound, room, entries, cells_of}
@@ -45,10 +45,6 @@ module _ {A : Algebra} (laws : Lawful A) {W : Type 0} (exact : W → A.Exact) (n
       let v = exact (at A exact nothing row x) in
       subst (A.lt A.ceiling) (sym pushed) (lt_le_lt laws A.ceiling (E ps) (A.plus (E ps) v) (heavy (each_front (λ p. Open A exact nothing row p → ⊥) ps x all).0) (le_first laws (E ps) v))
 
-  -- the next is not settled
-  pub with_open : Open A exact nothing row x → Weighed A exact nothing row price (ps ++ x ∷ []) None
-  with_open free all = absurd ((each_front (λ p. Open A exact nothing row p → ⊥) ps x all).1 free)
-
   pub with_both : (v w : W) → Weighed A exact nothing row price ps (Some v) → w ≡ at A exact nothing row x → (Open A exact nothing row x → ⊥) → (o : Option W) → Within A exact o (A.plus (exact v) (exact w)) → Weighed A exact nothing row price (ps ++ x ∷ []) o
   with_both v w so_far read shut o h =
       let same : A.plus (exact v) (exact w) ≡ E (ps ++ x ∷ []) = (λ i. A.plus (so_far.1 i) (exact (read i))) ∙ sym pushed in
@@ -58,10 +54,6 @@ module _ {A : Algebra} (laws : Lawful A) {W : Type 0} (exact : W → A.Exact) (n
       ] h
 
 module _ {A : Algebra} (laws : Lawful A) {W : Type 0} (exact : W → A.Exact) (nothing : W) (row : List W) (price : A.Exact) where
-  -- no premise yet
-  pub with_price : (w : W) → exact w ≡ price → Weighed A exact nothing row price [] (Some w)
-  with_price w e = (tt, e ∙ sym (plus_none laws price))
-
   -- what is nothing with some is nothing with more
   pub with_more : (ps qs : List ℕ) → Weighed A exact nothing row price ps None → Weighed A exact nothing row price (ps ++ qs) None
   with_more ps [] h = subst (λ xs. Weighed A exact nothing row price xs None) (sym (append-nil ps)) h
@@ -313,9 +305,3 @@ entry_inside lt ix a s x h =
     let l = (s.placed x h.0 h.1).0 in
     let e : ix (get_or (entries a) h.0 x) ≡ ix x = ap ix (h.2 x) in
     omega (arith, l, e, length-map (cells_of a) (λ c. c.slot))
-
--- a slice that is blanked whole
-pub blanked : {X : Type 0} (n m : ℕ) (last rest : List X) (f g : X) → last ≡ replicate n f ++ drop n rest → length last ≡ n → n ≡ m → f ≡ g → last ≡ replicate m g
-blanked n m last rest f g is long same value =
-    let short : length (drop n rest) ≡ 0 = omega (arith, long, simp (length-append, length-replicate) at (ap length is)) in
-    is ∙ ap (λ xs. replicate n f ++ xs) (nil_from_length (drop n rest) short) ∙ append-nil (replicate n f) ∙ (λ i. replicate (same i) (value i))

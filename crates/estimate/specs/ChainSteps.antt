@@ -1,5 +1,5 @@
 -- Steps read from a grammar and a row of lightest weights. Assumes nothing.
-use Rattle.std.specs.Prelude.{◌≡◌, ℕ, zero, suc, ◌+◌, ◌*◌, ◌/◌, ◌%◌, ◌<◌, ◌⊎◌, List, [], ◌∷◌, length, Some, None, Option, ◌≢◌, slice_index, remove, refl}
+use Rattle.std.specs.Prelude.{◌≡◌, ℕ, zero, suc, ◌+◌, ◌*◌, ◌/◌, ◌%◌, ◌<◌, ◌⊎◌, List, [], ◌∷◌, length, Some, None, Option, ◌≢◌, slice_index, refl}
 use Rattle.std.proofs.Common.{sym, ap, subst, subst₂, ◌∙◌, inl, inr, arith}
 use Rattle.std.proofs.lemmas.Bool.{cases_eq}
 use Rattle.weight.specs.Algebra.{Algebra, Lawful, Le}
@@ -20,12 +20,6 @@ use Rattle.estimate.specs.LightWeights.{one_lightest, not_both, all_one, tree_ab
 use Rattle.estimate.specs.ChainRules.{way_start, way_other, of_third}
 
 -- ---- all arguments but one
-pub remove_but : (xs : List ℕ) (i : ℕ) → remove xs i ≡ but i xs
-remove_but [] zero = refl
-remove_but [] (suc i) = refl
-remove_but (x ∷ xs) zero = refl
-remove_but (x ∷ xs) (suc i) = ap (λ ys. x ∷ ys) (remove_but xs i)
-
 pub but_each : (P : ℕ → Type 0) (xs : List ℕ) (i : ℕ) → Each P xs → Each P (but i xs)
 but_each P [] i h = tt
 but_each P (x ∷ xs) zero h = h.1

@@ -1,13 +1,10 @@
 -- Productions as rules, and that their derivations are the trees. Assumes nothing.
-use Rattle.std.specs.Prelude.{◌≡◌, ℕ, ◌<◌, List, [], ◌∷◌, map, length, get_or, Some, None, Option, slice_index_or, refl}
+use Rattle.std.specs.Prelude.{◌≡◌, ℕ, ◌<◌, List, [], ◌∷◌, length, Some, None, Option, refl}
 use Rattle.std.proofs.Common.{sym, ap, subst, ◌∙◌, inl, inr, arith}
-use Rattle.std.proofs.lemmas.List.{get_or-map, length-map}
 use Rattle.arrayvec.specs.ArrayVec.{ArrayVec}
 use Rattle.weight.specs.Algebra.{Algebra, Lawful, Le}
-use Rattle.grammar.specs.declared.production.Production.{Production}
-use Rattle.grammar.specs.Grammars.{ProductionModel, GrammarModel, production, no_production}
+use Rattle.grammar.specs.Grammars.{GrammarModel, production, no_production}
 use Rattle.grammar.specs.Formed.{Each, WellFormed, ProductionFormed}
-use Rattle.grammar.specs.Held.{production_model}
 use Rattle.grammar.specs.Trees.{Tree, Forest, node, empty, more, TreeIn, TreesIn, all_weight}
 use Rattle.grammar.proofs.Each.{each_at}
 use Rattle.deduction.specs.Deduction as deduction
@@ -129,9 +126,3 @@ module _ {A : Algebra} (laws : Lawful A) {W : Type 0} (exact : W → A.Exact) (m
               })
           | inr f ↦ inr (ap exact f.0 ∙ none_is, λ t k. let d = der_of t c k in subst (A.lt A.ceiling) d.2 (f.1 d.0 d.1))
         ]
-
--- a held production is that of the grammar
-pub held_production : (m : GrammarModel) (ps : List Production) (k : ℕ) (p : Production) → map production_model ps ≡ m.productions → k < length m.productions → p ≡ slice_index_or ps k p → production_model p ≡ production m k
-held_production m ps k p e h read =
-    let long : k < length ps = omega (arith, h, sym (length-map ps production_model) ∙ ap length e) in
-    ap production_model read ∙ sym (get_or-map production_model ps k p no_production long) ∙ ap (λ (xs : List ProductionModel). get_or xs k no_production) e

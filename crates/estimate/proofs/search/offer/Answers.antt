@@ -40,22 +40,12 @@ module _ {X : Type 0} (lt : X → X → Bool) (order : Ordered lt) (ix : X → �
     only = t.only;
   }
 
-pub returns-then-has : goal.returns-then-has
-returns-then-has g c =
+pub returns-then-has-clause-offered : goal.returns-then-has-clause-offered
+returns-then-has-clause-offered g c =
     let was = c.if-has.ensures in
-    let told = c.improve.ensures in
-    record {
-      sound = told.sound;
-      room = told.room;
-      offered = by-improve g.E.Rank.lt g.met.E.Rank.order g.E.Slotted.index c.args.e (entries c.args.agenda.now) (entries c.improve.new.self) c.improve.result
-          (was.0, (was.1.0, was.1.1 ∙ c.slot_index-k.ensures)) told.improves;
-    }
+    by-improve g.E.Rank.lt g.met.E.Rank.order g.E.Slotted.index c.args.e (entries c.args.agenda.now) (entries c.improve.new.self) c.improve.result
+    (was.0, (was.1.0, was.1.1 ∙ c.slot_index-k.ensures)) c.improve.ensures.improves
 
-pub returns-else-has : goal.returns-else-has
-returns-else-has g c =
-    let told = c.push.ensures in
-    record {
-      sound = told.sound;
-      room = told.room;
-      offered = by-push g.E.Rank.lt g.met.E.Rank.order g.E.Slotted.index c.args.e (entries c.args.agenda.now) (entries c.push.new.self) told.pushed;
-    }
+pub returns-else-has-clause-offered : goal.returns-else-has-clause-offered
+returns-else-has-clause-offered g c =
+    by-push g.E.Rank.lt g.met.E.Rank.order g.E.Slotted.index c.args.e (entries c.args.agenda.now) (entries c.push.new.self) c.push.ensures.pushed

@@ -1,30 +1,12 @@
 use Rattle.std.proofs.Common.{◌≡◌, ◌+◌, ◌<◌, sym, refl, ◌∙◌, subst, arith}
 use Rattle.agenda.specs.declared.agenda.Agenda.{Agenda}
 use Rattle.agenda.specs.Agendas.{room, entries, Sound}
-use Rattle.grammar.specs.Formed.{Each}
 use Rattle.estimate.specs.declared.entry.Entry.{Entry}
 use Rattle.estimate.specs.Entries.{cheaper, place}
-use Rattle.estimate.specs.Rules.{premises_of}
 use Rattle.estimate.specs.Searches.{AllOffered}
 use Rattle.estimate.proofs.Searching.{considered, consider_none}
 use Rattle.estimate.proofs.search.offer_all.Goals as goal
 use Rattle.estimate.proofs.search.offer_all.Goals.{in-Some, in_default}
-
-pub consider-requires : goal.consider-requires
-consider-requires g c =
-    let rules = c.args.rules.now in
-    let rule = c.in-Some.rule in
-    let within : c.loop-k.k < g.R.Rules.count rules = omega (arith, c.size-k-end.ensures) in
-    let ok = g.met.R.Rules.inside rules c.loop-k.k rule within c.in-Some.ensures in
-    record {
-      result = omega (arith, ok.result);
-      premises = subst (λ n. Each (λ p. p < n) (premises_of rule.premises)) (sym c.requires.row) ok.premises;
-      room = omega (arith, ok.result, c.loop-k.invariant.1);
-      sound = c.loop-k.invariant.0;
-    }
-
-pub loop-k-init : goal.loop-k-init
-loop-k-init g c = (c.requires.sound, refl, λ h. (h, λ r l. absurd (omega arith)))
 
 pub loop-k-preserved : goal.loop-k-preserved
 loop-k-preserved g c =
@@ -65,13 +47,7 @@ loop-k-preserved g c =
           subst P (sym w.agenda-is) next
     ]
 
-pub returns : goal.returns
-returns g c =
-    let inv = c.loop-k.invariant in
-    record {
-      sound = inv.0;
-      room = inv.1;
-      offered = λ h.
-          let all = inv.2 h in
-          (all.0, λ r below. all.1 r (omega (arith, c.size-k-end.ensures, c.loop-k-test.false)));
-    }
+pub returns-clause-offered : goal.returns-clause-offered
+returns-clause-offered g c = λ h.
+    let all = c.loop-k.invariant.2 h in
+    (all.0, λ r below. all.1 r (omega (arith, c.size-k-end.ensures, c.loop-k-test.false)))

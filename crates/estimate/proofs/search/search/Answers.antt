@@ -1,22 +1,12 @@
-use Rattle.std.proofs.Common.{◌≡◌, ◌<◌, ◌≤◌, List, length, set, sym, ap, ◌∙◌, subst, arith}
+use Rattle.std.proofs.Common.{◌≡◌, ◌<◌, List, length, set, sym, ap, ◌∙◌, subst, arith}
 use lib.ListN.{length-replicate}
 use Rattle.std.proofs.lemmas.List.{length-set}
 use Rattle.agenda.specs.Agendas.{entries}
-use Rattle.agenda.specs.Cells.{blank_cell}
 use Rattle.estimate.specs.Entries.{cheaper, place}
 use Rattle.estimate.specs.Rules.{system}
 use Rattle.estimate.specs.Searches.{Searching, opens}
-use Rattle.estimate.proofs.Searching.{begin, entry_inside, settle, turned, opens_less, solved, blanked}
+use Rattle.estimate.proofs.Searching.{begin, entry_inside, settle, turned, opens_less, solved}
 use Rattle.estimate.proofs.search.search.Goals as goal
-
-pub offer_all-requires : goal.offer_all-requires
-offer_all-requires g c =
-    let n = g.R.Rules.items c.args.rules.now in
-    record {
-      row = ap length c.requires.row ∙ length-replicate n g.W.Weight.nothing;
-      room = ap length c.new-agenda.ensures.cells ∙ c.requires.cells;
-      sound = c.new-agenda.ensures.sound;
-    }
 
 pub loop-e-init : goal.loop-e-init
 loop-e-init g c =
@@ -87,19 +77,10 @@ loop-e-preserved g c =
       all.1,
     )
 
-pub returns : goal.returns
-returns g c =
+pub returns-clause-solved : goal.returns-clause-solved
+returns-clause-solved g c = λ x h.
     let w = g.met.W.Weight in
-    let exact = g.W.Weight.exact in
-    let nothing = g.W.Weight.nothing in
     let rules = c.args.rules.now in
     let inv = c.loop-e.invariant in
-    let popped = c.in_default.ensures in
-    let n = length c.args.cells.now in
-    let left = c.pop.new.self.cells.now in
-    let few : length left ≤ n = omega (arith, popped.room, inv.1, c.requires.cells) in
-    record {
-      solved = λ x h. solved w.lawful exact nothing w.within w.same w.empty (g.R.Rules.count rules) (g.R.Rules.gives rules) (λ k r l q. (g.met.R.Rules.inside rules k r l q).priced)
-          c.loop-e.row (entries c.loop-e.agenda) inv.3 inv.4 popped.popped.0 x (omega (arith, h, inv.2));
-      cells = blanked n (g.R.Rules.items rules) c.blank-2.new.cells _ (blank_cell c.blank.result) _ c.blank-2.ensures (omega arith) c.requires.cells (ap blank_cell c.blank.ensures);
-    }
+    solved w.lawful g.W.Weight.exact g.W.Weight.nothing w.within w.same w.empty (g.R.Rules.count rules) (g.R.Rules.gives rules) (λ k r l q. (g.met.R.Rules.inside rules k r l q).priced)
+    c.loop-e.row (entries c.loop-e.agenda) inv.3 inv.4 c.in_default.ensures.popped.0 x (omega (arith, h, inv.2))

@@ -1,4 +1,4 @@
-use Rattle.std.proofs.Common.{replicate, ap, ◌∙◌, subst, arith}
+use Rattle.std.proofs.Common.{subst, arith}
 use Rattle.std.proofs.lemmas.List.{get_or_default}
 use Rattle.grammar.specs.Model.{model}
 use Rattle.grammar.proofs.Formed.{formed_is}
@@ -7,15 +7,8 @@ use Rattle.estimate.specs.TreeRules.{TreeRule}
 use Rattle.estimate.specs.TreeRulesLemmas.{rule_of, light_row}
 use Rattle.estimate.proofs.trees.lightest_whole.Goals as goal
 
-pub search-requires : goal.search-requires
-search-requires g c =
-    record {
-      row = c.blank_row.ensures ∙ ap (λ n. replicate n g.W.Weight.nothing) c.requires.row;
-      cells = c.requires.cells;
-    }
-
-pub returns : goal.returns
-returns g c =
+pub returns-clause-lightest : goal.returns-clause-lightest
+returns-clause-lightest g c =
     let m = model c.args.accepted.now.grammar.now in
     let w = g.met.W.Weight in
     let A = g.W.Weight.algebra in
@@ -23,7 +16,4 @@ returns g c =
     let row = c.search.new.row in
     let formed = formed_is m c.args.accepted.now.grammar.now.well_formed in
     let all = light_row w.lawful exact m (TreeRule A exact m) (λ p r h k. k) (rule_of w.lawful exact m formed c.args.accepted.now.accepted w.held) w.within g.W.Weight.nothing w.empty row c.search.ensures.solved in
-    record {
-      lightest = λ x d h. subst (λ v. Light A m x (exact v)) (get_or_default row x g.W.Weight.nothing d (omega (arith, h, c.requires.row))) (all x h);
-      cells = c.search.ensures.cells;
-    }
+    λ x d h. subst (λ v. Light A m x (exact v)) (get_or_default row x g.W.Weight.nothing d (omega (arith, h, c.requires.row))) (all x h)
