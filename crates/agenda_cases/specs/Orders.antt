@@ -1,7 +1,6 @@
 -- The orders of tasks and of peaks. Assumes nothing.
 use Rattle.std.specs.Prelude.{◌≡◌, ℕ, Bool, ◌&&◌, ◌||◌, ◌==◌, nat_lt}
-use Rattle.std.proofs.Common.{Equal, is_lt, nat_cmp, sym}
-use Rattle.std.specs.declared.cmp.Reverse.{Reverse}
+use Rattle.std.proofs.Common.{Equal, nat_cmp, sym}
 use Rattle.std.specs.Ordering.{ordering_then}
 use Rattle.agenda.specs.Levels.{nat_level, then_level}
 use Rattle.agenda_cases.specs.declared.entries.Task.{Task}

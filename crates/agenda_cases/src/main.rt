@@ -38,7 +38,13 @@ fn peaks(rt: HostRuntime) -> io::Result<()> {
     a.offer(Peak::new(9, 1));
     a.offer(Peak::new(8, 3));
     a.offer(Peak::new(12, 0));
-    while let Some(Peak { height: Reverse(height), place }) = a.pop() {
+    while let Some(
+        Peak {
+            height: Reverse(height),
+            place,
+        },
+    ) = a.pop()
+    {
         println!(rt; "peak {place} is {height} high")?;
     }
     Ok(())

@@ -21,4 +21,4 @@ returns-in-Some c =
     let u : drop 4 (cells_of a) ≡ drop 4 (cells_of new) = c.push.ensures.untouched 4 small in
     let v : drop 4 (cells_of b) ≡ drop 4 (cells_of a) = c.pop.ensures.untouched 4 small in
     let w : drop 4 (cells_of b) ≡ drop 4 c.args.cells.now = v ∙ u ∙ ap (drop 4) c.new-a.ensures.cells in
-    record { cost = ap (λ t. t.cost) (one c.in-Some.t c.in-Some.ensures.popped.member); rest = (let k = c.cells-1.given in let k2 = c.in-Some.in-Some-own in let k3 = c.in-Some.known_told-1-own in let k4 = c.in-Some.t-1-ensures in ?) }
+    record { cost = ap (λ t. t.cost) (one c.in-Some.t c.in-Some.ensures.popped.member); rest = search rules }
