@@ -1,6 +1,6 @@
 // Tasks, the cheapest first, and peaks, the highest first.
 ghost use Rattle.std.specs.Prelude.{◌≡◌};
-ghost use Rattle.agenda_cases.specs.Orders.{node_of, place_of, peak, tasks_alike, peaks_alike};
+ghost use Rattle.agenda_cases.specs.Orders.{cheaper, higher, node_of, place_of, peak, tasks_alike, peaks_alike};
 
 use agenda::Slotted;
 use std::cmp::Reverse;
@@ -10,6 +10,15 @@ use std::cmp::Reverse;
 pub struct Task {
     pub cost: u64,
     pub node: u32,
+}
+
+impl Task {
+    // Whether it costs less, or as much at a node before the other's.
+    pub fn is_cheaper(&self, other: &Task) -> bool
+        ensures { result ≡ cheaper self.now other.now }
+    {
+        self < other
+    }
 }
 
 impl Slotted for Task {
@@ -37,6 +46,13 @@ impl Peak {
             height: Reverse(height),
             place,
         }
+    }
+
+    // Whether it is higher, or as high at a place before the other's.
+    pub fn is_higher(&self, other: &Peak) -> bool
+        ensures { result ≡ higher self.now other.now }
+    {
+        other > self
     }
 }
 
