@@ -113,6 +113,7 @@ impl<'a, E: Slotted> Agenda<'a, E> {
             false
         }
     }
+
     // Sees to it that an entry with e's index is held that does not come after e.
     pub fn offer(&mut self, e: E)
         requires { E.index e < room self.old }
