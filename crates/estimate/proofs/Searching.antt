@@ -6,15 +6,19 @@ use Rattle.weight.specs.Algebra.{Algebra, Lawful, Le, Within}
 use Rattle.weight.proofs.Orders.{le_first, le_trans, lt_le, le_lt, lt_le_lt, cases, plus_none}
 use Rattle.std.proofs.lemmas.List.{get_or-replicate, get_or_past, length-map, length-replicate, append-nil, append_assoc}
 use Rattle.std.proofs.lemmas.Bool.{cases_lt}
+use Rattle.std.specs.declared.cmp.Ord as Ord
+use Rattle.std.specs.declared.cmp.PartialEq as PartialEq
+use Rattle.std.specs.declared.cmp.PartialOrd as PartialOrd
+use Rattle.agenda.specs.declared.entry.Slotted as Slotted
 use Rattle.agenda.specs.declared.agenda.Agenda.{Agenda}
-use Rattle.agenda.specs.Agendas.{Taken, Sound, room, entries, cells_of}
+use Rattle.agenda.specs.Agendas.{Taken, Offered, room, entries, cells_of}
 use Rattle.grammar.specs.Formed.{Each}
 use Rattle.deduction.specs.Deduction.{System, Der, Ders, node, none, more, Derives, DerivesAll, cost, cost_all, sum}
 use Rattle.estimate.specs.declared.entry.Entry.{Entry}
 use Rattle.estimate.specs.declared.rules.Rule.{Rule}
 use Rattle.estimate.specs.Entries.{cheaper, place}
 use Rattle.estimate.specs.Rules.{premises_of, Numbered, system}
-use Rattle.estimate.specs.Searches.{at, Open, worth, AllSettled, Weighed, Reached, Found, Searching, Closed, Solved, Offered, Considered, opens}
+use Rattle.estimate.specs.Searches.{at, Open, worth, AllSettled, Weighed, Reached, Found, Searching, Closed, Solved, Considered, opens}
 use Rattle.estimate.specs.Cheaper.{not_out}
 use Rattle.estimate.specs.Frontier.{frontier}
 
@@ -150,7 +154,7 @@ module _ {A : Algebra} (laws : Lawful A) {W : Type 0} (exact : W → A.Exact) (n
                   subst Here (sym (same_rule q p)) here
               | no ne ↦
                   let was = c q (omega arith) all open' fits in
-                  let f = o.kept was.0 was.1 in
+                  let f = o.covered was.0 was.1 in
                   let bound = A.plus (exact q.1.price) (worth A exact nothing row (premises_of q.1.premises)) in
                   (f.0, f.1, f.2 ∙ was.2, le_trans laws (exact f.0.cost) (exact was.0.cost) bound (no_dearer was.0 f.0 f.3) was.3)
             ]
@@ -300,8 +304,9 @@ begin A {W} exact nothing D n row es blank no-entry = record {
 }
 
 -- an entry's index is one that there is room for
-pub entry_inside : {X : Type 0} (lt : X → X → Bool) (ix : X → ℕ) (a : Agenda X) → Sound lt ix a → (x : X) → Has (entries a) x → ix x < room a
-entry_inside lt ix a s x h =
-    let l = (s.placed x h.0 h.1).0 in
-    let e : ix (get_or (entries a) h.0 x) ≡ ix x = ap ix (h.2 x) in
-    omega (arith, l, e, length-map (cells_of a) (λ c. c.slot))
+module _ {X : Type 0} {slotted : Slotted.Ghosts X} {ord : Ord.Ghosts X} {eq : PartialEq.Ghosts X} {partial : PartialOrd.Ghosts X} where
+  pub entry_inside : (a : Agenda X slotted ord eq partial) (x : X) → Has (entries a) x → slotted.index x < room a
+  entry_inside a x h =
+      let l = (a.placed x h.0 h.1).0 in
+      let e : slotted.index (get_or (entries a) h.0 x) ≡ slotted.index x = ap slotted.index (h.2 x) in
+      omega (arith, l, e, length-map (cells_of a) (λ c. c.slot))

@@ -7,12 +7,13 @@
 --   Searching D row es   what holds of the row and the agenda's entries
 --   Closed D i row es    what the rules below i give has been offered
 --   Solved D row         the row has the lightest cost of each item
---   Offered, Considered  what an offer leaves, and what a rule leaves
+--   Considered           what a rule leaves
 --   opens row            how many items are not settled
-use Rattle.std.specs.Prelude.{◌≡◌, ℕ, suc, ◌<◌, Bool, false, ◌⊎◌, List, [], ◌∷◌, Some, None, Option, slice_index_or}
+use Rattle.std.specs.Prelude.{◌≡◌, ℕ, suc, ◌<◌, ◌⊎◌, List, [], ◌∷◌, Some, None, Option, slice_index_or}
 use Rattle.std.proofs.Common.{inl, inr}
 use Rattle.std.specs.List.{ContainsAt as Has}
 use Rattle.weight.specs.Algebra.{Algebra, Le}
+use Rattle.agenda.specs.Agendas.{Offered}
 use Rattle.grammar.specs.Formed.{Each}
 use Rattle.deduction.specs.Deduction.{System, Der, Derives, cost, sum}
 use Rattle.estimate.specs.declared.entry.Entry.{Entry}
@@ -69,12 +70,6 @@ module _ (A : Algebra) {W : Type 0} (exact : W → A.Exact) (nothing : W) where
   -- At each item below n the row has its lightest cost, or none where no derivation is within the ceiling.
   abbrev pub Solved : System A → ℕ → List W → Type 0
   Solved D n row = (x : ℕ) → x < n → ((Open row x → ⊥) × Found D x (exact (at row x))) ⊎ (Open row x × Beyond D x)
-
--- An entry was offered: one with its index is held that does not come after it, for each that was held one that does not come after it, and no other is new.
-pub record Offered {X : Type 0} (lt : X → X → Bool) (index : X → ℕ) (e : X) (xs ys : List X) : Type 0 where
-  pub found : (x : X) × Has ys x × (index x ≡ index e) × (lt e x ≡ false)
-  pub kept : (x : X) → Has xs x → (y : X) × Has ys y × (index y ≡ index x) × (lt x y ≡ false)
-  pub only : (x : X) → Has ys x → (x ≡ e) ⊎ Has xs x
 
 -- A rule was considered, the agenda's entries being xs before and ys now: its conclusion is settled or it gives nothing, or what it gives was offered.
 abbrev pub Considered : (A : Algebra) {W : Type 0} → (W → A.Exact) → W → List W → Rule W → (xs ys : List (Entry W)) → Type 0

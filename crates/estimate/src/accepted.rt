@@ -38,6 +38,5 @@ impl<'a, W: Weight> AcceptedGrammar<'a, W> {
 fn takes_all<W: Weight>(productions: &[Production]) -> bool
     ensures { IsTrue result ↔ ((k : ℕ) (d : Production) → k < length productions.now → W.Weight.algebra.least ≤ (production_model (slice_index_or productions.now k d)).weight) }
 {
-    let least = W::least_number();
-    productions.iter().all(|p| least <= p.weight())
+    productions.iter().all(|p| W::LEAST <= p.weight())
 }

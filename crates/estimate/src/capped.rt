@@ -1,12 +1,8 @@
 // Kinds whose ceiling can be had, and whose weights are known by the numbers that they show.
-ghost use Rattle.std.specs.Prelude.{◌≡◌, ℕ, ◌*◌, ◌≤◌};
-ghost use Rattle.weight.specs.Sums.{most_sum};
-ghost use Rattle.estimate.specs.Caps.{sum_showing, odds_showing};
-ghost use Rattle.std.proofs.Common.{arith};
-ghost use Rattle.weight.specs.KindLaws.{sums_same, odds_same};
+ghost use Rattle.std.specs.Prelude.{◌≡◌, ℕ};
+ghost use Rattle.estimate.specs.Caps.{number_showing, number_shown};
 
-use weight::odds::Odds;
-use weight::sums::Sums;
+use weight::number::{Joining, Number};
 use weight::weight::Weight;
 
 pub trait Capped: Weight {
@@ -20,49 +16,12 @@ pub trait Capped: Weight {
     ghost shown: { (w : Self) → showing (Self.Weight.algebra.shown (Self.Weight.exact w)) ≡ w };
 }
 
-// n times a sum.
-fn times(w: Sums, n: u32) -> Sums
-    requires { w.value * n ≤ most_sum }
-    ensures { result.value ≡ w.value * n }
-{
-    let mut sum = Sums::none();
-    for k in 0..n {
-        let Some(more) = sum.combine(w) else {
-            return sum;
-        };
-        sum = more;
-    }
-    sum
-}
+impl<J: Joining> Capped for Number<J> {
+    ghost showing = { number_showing J.Joining.own };
 
-impl Capped for Sums {
-    ghost showing = { sum_showing };
+    ghost shown = { number_shown J.Joining.own };
 
-    ghost shown = { λ w. sums_same _ w (omega (arith, w.within)) };
-
-    fn ceiling() -> Sums {
-        match Sums::take(62_500) {
-            Some(w) => times(times(w, 125), 128),
-            None => Sums::none(),
-        }
-    }
-}
-
-impl Capped for Odds {
-    ghost showing = { odds_showing };
-
-    ghost shown = { λ w. odds_same _ w (omega (arith, w.within, w.positive)) };
-
-    fn ceiling() -> Odds {
-        let Some(a) = Odds::take(62_500) else {
-            return Odds::none();
-        };
-        let Some(b) = Odds::take(64_000) else {
-            return Odds::none();
-        };
-        match a.combine(b) {
-            Some(w) => w,
-            None => a,
-        }
+    fn ceiling() -> Number<J> {
+        Number::ceiling()
     }
 }

@@ -1,9 +1,36 @@
-// An entry of the category agenda.
-pub mod ranking;
+// The entries of the category agenda.
+ghost use Rattle.std.specs.Prelude.{◌≡◌};
+ghost use Rattle.estimate.specs.Entries.{place, blank_entry};
+ghost use Rattle.estimate.specs.Cheaper.{entries_alike};
 
-// A category and what it costs.
-#[derive(Clone, Copy)]
+use agenda::Slotted;
+use weight::weight::Weight;
+
+// A category and what it costs: the cheapest comes first, and of those the category with the lowest number.
+#[derive(Clone, Copy, PartialEq, Eq, PartialOrd, Ord)]
 pub struct Entry<W> {
     pub cost: W,
     pub category: usize,
+}
+
+impl<W: Weight> Slotted for Entry<W> {
+    ghost index = { place };
+
+    ghost alike = { entries_alike W.Weight.algebra W.Weight.exact W.Ord.cmp W.Weight.compared W.Weight.same };
+
+    fn slot_index(&self) -> usize {
+        self.category
+    }
+}
+
+impl<W: Weight> Entry<W> {
+    // What a blank cell of the agenda holds.
+    pub fn blank() -> Entry<W>
+        ensures { result ≡ blank_entry W.Weight.nothing }
+    {
+        Entry {
+            cost: W::none(),
+            category: 0,
+        }
+    }
 }

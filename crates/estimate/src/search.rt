@@ -1,16 +1,15 @@
 // The lightest cost of each item that rules give, best first.
 ghost use Rattle.std.specs.Prelude.{◌≡◌, ◌<◌, length, replicate, MatchOption, slice_set};
 ghost use Rattle.agenda.specs.Cells.{blank_cell};
-ghost use Rattle.agenda.specs.Agendas.{room, entries, Sound};
+ghost use Rattle.agenda.specs.Agendas.{room, entries};
 ghost use Rattle.grammar.specs.Formed.{Each};
-ghost use Rattle.estimate.specs.Entries.{cheaper, place, blank_entry};
+ghost use Rattle.estimate.specs.Entries.{blank_entry};
 ghost use Rattle.estimate.specs.Rules.{premises_of, system};
-ghost use Rattle.estimate.specs.Searches.{at, Open, Weighed, Searching, Closed, Solved, Offered, Considered, AllOffered};
+ghost use Rattle.estimate.specs.Searches.{at, Open, Weighed, Searching, Closed, Solved, Considered, AllOffered};
 
 use crate::entry::Entry;
 use crate::rules::{Rule, Rules};
-use agenda::{Agenda, Cell, Rank, Slotted, blank};
-use std::cmp::Ordering;
+use agenda::{Agenda, Cell, blank};
 use weight::weight::Weight;
 
 // The weight at a settled item.
@@ -19,11 +18,7 @@ pub fn settled<W: Weight>(row: &[W], x: usize) -> Option<W>
     ensures { MatchOption result (Open W.Weight.algebra W.Weight.exact W.Weight.nothing row.now x) (λ w. (w ≡ at W.Weight.algebra W.Weight.exact W.Weight.nothing row.now x) × (Open W.Weight.algebra W.Weight.exact W.Weight.nothing row.now x → ⊥)) }
 {
     let w = row[x];
-    match w.compare(W::none()) {
-        Ordering::Less => Some(w),
-        Ordering::Equal => None,
-        Ordering::Greater => Some(w),
-    }
+    (w != W::none()).then_some(w)
 }
 
 // What the rule gives, where its premises are settled.
@@ -38,28 +33,11 @@ pub fn weigh<W: Weight>(rule: &Rule<W>, row: &[W]) -> Option<W>
     Some(cost)
 }
 
-// Sees to it that the entry with e's index does not come after e.
-fn offer<E: Slotted + Copy>(agenda: &mut Agenda<E>, e: E)
-    requires { Sound E.Rank.lt E.Slotted.index agenda.old × (E.Slotted.index e < room agenda.old) }
-    ensures sound { Sound E.Rank.lt E.Slotted.index agenda.new }
-    ensures room { room agenda.new ≡ room agenda.old }
-    ensures offered { Offered E.Rank.lt E.Slotted.index e (entries agenda.old) (entries agenda.new) }
-{
-    let k = e.slot_index();
-    if agenda.has(k) {
-        let _ = agenda.improve(e);
-    } else {
-        agenda.push(e);
-    }
-}
-
 // Offers what the rule gives, if its premises are settled and its conclusion is not.
 fn consider<W: Weight>(rule: &Rule<W>, row: &[W], agenda: &mut Agenda<Entry<W>>)
     requires result { rule.now.result < length row.now }
     requires premises { Each (λ p. p < length row.now) (premises_of rule.now.premises) }
     requires room { rule.now.result < room agenda.old }
-    requires sound { Sound (cheaper W.Weight.algebra W.Weight.exact) place agenda.old }
-    ensures sound { Sound (cheaper W.Weight.algebra W.Weight.exact) place agenda.new }
     ensures room { room agenda.new ≡ room agenda.old }
     ensures considered { Considered W.Weight.algebra W.Weight.exact W.Weight.nothing row.now rule.now (entries agenda.old) (entries agenda.new) }
 {
@@ -68,7 +46,7 @@ fn consider<W: Weight>(rule: &Rule<W>, row: &[W], agenda: &mut Agenda<Entry<W>>)
         return;
     }
     if let Some(cost) = weigh(rule, row) {
-        offer(agenda, Entry { cost, category });
+        agenda.offer(Entry { cost, category });
     }
 }
 
@@ -76,8 +54,6 @@ fn consider<W: Weight>(rule: &Rule<W>, row: &[W], agenda: &mut Agenda<Entry<W>>)
 fn offer_all<W: Weight, R: Rules<W>>(rules: &R, row: &[W], agenda: &mut Agenda<Entry<W>>)
     requires row { length row.now ≡ R.Rules.items rules.now }
     requires room { room agenda.old ≡ R.Rules.items rules.now }
-    requires sound { Sound (cheaper W.Weight.algebra W.Weight.exact) place agenda.old }
-    ensures sound { Sound (cheaper W.Weight.algebra W.Weight.exact) place agenda.new }
     ensures room { room agenda.new ≡ room agenda.old }
     ensures offered { AllOffered W.Weight.algebra W.Weight.exact W.Weight.nothing (R.Rules.count rules.now) (R.Rules.gives rules.now) row.now (entries agenda.old) (R.Rules.count rules.now) (entries agenda.new) }
 {

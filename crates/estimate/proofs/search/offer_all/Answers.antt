@@ -1,8 +1,6 @@
-use Rattle.std.proofs.Common.{◌≡◌, ◌+◌, ◌<◌, sym, refl, ◌∙◌, subst, arith}
-use Rattle.agenda.specs.declared.agenda.Agenda.{Agenda}
-use Rattle.agenda.specs.Agendas.{room, entries, Sound}
+use Rattle.std.proofs.Common.{◌≡◌, ◌+◌, ◌<◌, List, sym, ap, refl, ◌∙◌, subst, arith}
+use Rattle.agenda.specs.Agendas.{room, entries}
 use Rattle.estimate.specs.declared.entry.Entry.{Entry}
-use Rattle.estimate.specs.Entries.{cheaper, place}
 use Rattle.estimate.specs.Searches.{AllOffered}
 use Rattle.estimate.proofs.Searching.{considered, consider_none}
 use Rattle.estimate.proofs.search.offer_all.Goals as goal
@@ -22,32 +20,25 @@ loop-k-preserved g c =
     let was = c.loop-k.agenda in
     let inv = c.loop-k.invariant in
     let within : k < n = omega (arith, c.size-k-end.ensures) in
-    let P : Agenda (Entry g.row.W.Denot) → Type 0 =
-    λ a. Sound (cheaper A exact) place a × (room a ≡ room c.args.agenda.now) × AllOffered A exact nothing n gives row (entries c.args.agenda.now) (k + 1) (entries a) in
+    let P : List (Entry g.row.W.Denot) → Type 0 = AllOffered A exact nothing n gives row (entries c.args.agenda.now) (k + 1) in
     elim c.match-rule.branch [
       | in-Some w ↦
           let now = w.consider.new.agenda in
-          let told = w.consider.ensures in
-          let next : P now = (
-            told.sound,
-            told.room ∙ inv.1,
-            λ h.
-                let so_far = inv.2 h in
-                considered laws exact nothing n gives (g.met.R.Rules.one rules) row (entries was) (entries now) k so_far.0 so_far.1 w.in-Some.rule within w.in-Some.ensures told.considered,
-          ) in
-          subst P (sym w.agenda-is) next
-      | in_default w ↦
-          let next : P was = (
-            inv.0,
-            inv.1,
-            λ h.
-                let so_far = inv.2 h in
-                consider_none laws exact nothing n gives (g.met.R.Rules.one rules) row (entries was) (entries was) k so_far.0 so_far.1 (subst (gives k) w.in_default.is c.rule.ensures) refl,
-          ) in
-          subst P (sym w.agenda-is) next
+          let told = w.consider.ensures in (
+            ap room w.agenda-is ∙ told.room ∙ inv.0,
+            subst P (sym (ap entries w.agenda-is)) (λ h.
+                let so_far = inv.1 h in
+                considered laws exact nothing n gives (g.met.R.Rules.one rules) row (entries was) (entries now) k so_far.0 so_far.1 w.in-Some.rule within w.in-Some.ensures told.considered),
+          )
+      | in_default w ↦ (
+        ap room w.agenda-is ∙ inv.0,
+        subst P (sym (ap entries w.agenda-is)) (λ h.
+            let so_far = inv.1 h in
+            consider_none laws exact nothing n gives (g.met.R.Rules.one rules) row (entries was) (entries was) k so_far.0 so_far.1 (subst (gives k) w.in_default.is c.rule.ensures) refl),
+      )
     ]
 
 pub returns-clause-offered : goal.returns-clause-offered
 returns-clause-offered g c = λ h.
-    let all = c.loop-k.invariant.2 h in
+    let all = c.loop-k.invariant.1 h in
     (all.0, λ r below. all.1 r (omega (arith, c.size-k-end.ensures, c.loop-k-test.false)))

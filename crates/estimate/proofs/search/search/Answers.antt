@@ -1,8 +1,11 @@
-use Rattle.std.proofs.Common.{◌≡◌, ◌<◌, List, length, set, sym, ap, ◌∙◌, subst, arith}
+use Rattle.std.proofs.Common.{◌≡◌, ◌<◌, Bool, List, length, set, sym, ap, ◌∙◌, subst, arith}
 use lib.ListN.{length-replicate}
 use Rattle.std.proofs.lemmas.List.{length-set}
 use Rattle.agenda.specs.Agendas.{entries}
+use Rattle.agenda.specs.Agendas.{Taken}
+use Rattle.estimate.specs.declared.entry.Entry.{Entry}
 use Rattle.estimate.specs.Entries.{cheaper, place}
+use Rattle.estimate.specs.Cheaper.{by_cost_cheaper}
 use Rattle.estimate.specs.Rules.{system}
 use Rattle.estimate.specs.Searches.{Searching, opens}
 use Rattle.estimate.proofs.Searching.{begin, entry_inside, settle, turned, opens_less, solved}
@@ -17,7 +20,6 @@ loop-e-init g c =
     let n = g.R.Rules.items rules in
     let told = c.offer_all.ensures in
     let all = told.offered (begin A exact nothing (system A exact (g.R.Rules.count rules) (g.R.Rules.gives rules)) n c.args.row.now (entries c.new-agenda.result) c.requires.row c.new-agenda.ensures.empty) in (
-      told.sound,
       told.room ∙ ap length c.new-agenda.ensures.cells ∙ c.requires.cells,
       ap length c.requires.row ∙ length-replicate n nothing,
       all.0,
@@ -27,8 +29,8 @@ loop-e-init g c =
 pub settle-requires : goal.settle-requires
 settle-requires g c =
     let inv = c.loop-e.invariant in
-    let l = entry_inside (cheaper g.W.Weight.algebra g.W.Weight.exact) place c.loop-e.agenda inv.0 c.in-Some.e c.in-Some.ensures.popped.member in
-    omega (arith, l, inv.1, inv.2)
+    let l = entry_inside c.loop-e.agenda c.in-Some.e c.in-Some.ensures.popped.member in
+    omega (arith, l, inv.0, inv.1)
 
 pub loop-e-smaller : goal.loop-e-smaller
 loop-e-smaller g c =
@@ -40,11 +42,11 @@ loop-e-smaller g c =
     let inv = c.loop-e.invariant in
     let row = c.loop-e.row in
     let e = c.in-Some.e in
-    let taken = c.in-Some.ensures.popped in
-    let l = entry_inside (cheaper A exact) place c.loop-e.agenda inv.0 e taken.member in
-    let inside : e.category < length row = omega (arith, l, inv.1, inv.2) in
+    let taken = subst (λ (lt : Entry g.row.W.Denot → Entry g.row.W.Denot → Bool). Taken lt place e (entries c.loop-e.agenda) (entries c.pop.new.self)) (by_cost_cheaper A exact g.W.Ord.cmp w.compared w.lawful) c.in-Some.ensures.popped in
+    let l = entry_inside c.loop-e.agenda e taken.member in
+    let inside : e.category < length row = omega (arith, l, inv.0, inv.1) in
     let t = turned w.lawful exact nothing w.within w.same w.empty (g.R.Rules.count rules) (g.R.Rules.gives rules) (λ k r h q. (g.met.R.Rules.inside rules k r h q).priced)
-    row (entries c.loop-e.agenda) inv.3 inv.4 e (entries c.pop.new.self) taken inside in
+    row (entries c.loop-e.agenda) inv.2 inv.3 e (entries c.pop.new.self) taken inside in
     let fewer = opens_less w.lawful exact nothing w.within w.same w.empty row e.category e.cost inside t.0 t.1 in
     let now : opens A exact c.settle.new.row ≡ opens A exact (set row e.category e.cost) = ap (opens A exact) c.settle.ensures in
     omega (arith, fewer, now)
@@ -62,17 +64,16 @@ loop-e-preserved g c =
     let row = c.loop-e.row in
     let e = c.in-Some.e in
     let popped = c.in-Some.ensures in
-    let taken = popped.popped in
-    let l = entry_inside (cheaper A exact) place c.loop-e.agenda inv.0 e taken.member in
-    let inside : e.category < length row = omega (arith, l, inv.1, inv.2) in
+    let taken = subst (λ (lt : Entry g.row.W.Denot → Entry g.row.W.Denot → Bool). Taken lt place e (entries c.loop-e.agenda) (entries c.pop.new.self)) (by_cost_cheaper A exact g.W.Ord.cmp w.compared w.lawful) popped.popped in
+    let l = entry_inside c.loop-e.agenda e taken.member in
+    let inside : e.category < length row = omega (arith, l, inv.0, inv.1) in
     let told = c.offer_all-in-Some.ensures in
     let settled = settle w.lawful exact nothing w.within w.same w.empty n gives (λ k r h q. (g.met.R.Rules.inside rules k r h q).priced)
-    row (entries c.loop-e.agenda) inv.3 inv.4 e (entries c.pop.new.self) taken inside in
+    row (entries c.loop-e.agenda) inv.2 inv.3 e (entries c.pop.new.self) taken inside in
     let S : List g.row.W.Denot → Type 0 = λ r. Searching A exact nothing (system A exact n gives) r (entries c.pop.new.self) in
     let all = told.offered (subst S (sym c.settle.ensures) settled) in (
-      told.sound,
-      told.room ∙ popped.room ∙ inv.1,
-      ap length c.settle.ensures ∙ length-set row e.category e.cost ∙ inv.2,
+      told.room ∙ popped.room ∙ inv.0,
+      ap length c.settle.ensures ∙ length-set row e.category e.cost ∙ inv.1,
       all.0,
       all.1,
     )
@@ -83,4 +84,4 @@ returns-clause-solved g c = λ x h.
     let rules = c.args.rules.now in
     let inv = c.loop-e.invariant in
     solved w.lawful g.W.Weight.exact g.W.Weight.nothing w.within w.same w.empty (g.R.Rules.count rules) (g.R.Rules.gives rules) (λ k r l q. (g.met.R.Rules.inside rules k r l q).priced)
-    c.loop-e.row (entries c.loop-e.agenda) inv.3 inv.4 c.in_default.ensures.popped.0 x (omega (arith, h, inv.2))
+    c.loop-e.row (entries c.loop-e.agenda) inv.2 inv.3 c.in_default.ensures.popped.0 x (omega (arith, h, inv.1))

@@ -1,6 +1,5 @@
 use Rattle.std.proofs.Common.{◌≡◌, length}
-use Rattle.agenda.specs.Agendas.{room, entries, Sound}
-use Rattle.estimate.specs.Entries.{cheaper, place}
+use Rattle.agenda.specs.Agendas.{room, entries}
 use Rattle.estimate.specs.Rules.{system}
 use Rattle.estimate.specs.Searches.{Searching, Closed, opens}
 use Rattle.estimate.proofs.search.search.Given as goal
@@ -12,7 +11,7 @@ invariant-loop-e g l =
     let nothing = g.W.Weight.nothing in
     let n = g.R.Rules.count l.rules in
     let gives = g.R.Rules.gives l.rules in
-    Sound (cheaper A exact) place l.agenda × (room l.agenda ≡ g.R.Rules.items l.rules) × (length l.row ≡ g.R.Rules.items l.rules)
+    (room l.agenda ≡ g.R.Rules.items l.rules) × (length l.row ≡ g.R.Rules.items l.rules)
     × Searching A exact nothing (system A exact n gives) l.row (entries l.agenda) × Closed A exact nothing n gives n l.row (entries l.agenda)
 
 abbrev pub decreases-loop-e : goal.decreases-loop-e
