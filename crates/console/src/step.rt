@@ -31,7 +31,7 @@ pub enum Fault {
     UnknownCommand,
     NoBytes,
     // The operand is no number, or above this one.
-    NoNumber(u16),
+    NoNumber(u32),
 }
 
 impl fmt::Display for Fault {
@@ -95,7 +95,7 @@ fn parse_word(line: &[u8]) -> Option<Step>
 fn number(text: &[u8]) -> Result<u16, Fault>
     ensures { result_ok result ≡ number_of most text.now }
 {
-    number_of(text).ok_or(Fault::NoNumber(u16::MAX))
+    number_of(text).ok_or(Fault::NoNumber(u32::from(u16::MAX)))
 }
 
 // A command with operands: its word, and what stands behind it.

@@ -3,6 +3,7 @@ ghost use Rattle.std.specs.Prelude.{◌≡◌, true};
 ghost use Rattle.grammar.specs.Held.{held_model};
 ghost use Rattle.grammar.specs.Tested.{formed};
 
+use crate::limits::{MOST_CATEGORIES, MOST_PRODUCTIONS};
 use crate::production::Production;
 use arrayvec::ArrayVec;
 
@@ -11,8 +12,8 @@ mod calls;
 #[derive(Drop)]
 pub struct Grammar {
     pub(crate) kind: u8,
-    pub(crate) dimensions: ArrayVec<u8, 32>,
+    pub(crate) dimensions: ArrayVec<u8, MOST_CATEGORIES>,
     pub(crate) start: u8,
-    pub(crate) productions: ArrayVec<Production, 128>,
+    pub(crate) productions: ArrayVec<Production, MOST_PRODUCTIONS>,
     ghost well_formed: { formed (held_model kind dimensions start productions) ≡ true },
 }

@@ -4,6 +4,7 @@
 pub mod command;
 mod filling;
 pub mod held;
+pub mod limits;
 mod loader;
 pub mod production;
 pub mod stage;
@@ -15,6 +16,7 @@ mod trees;
 
 pub use command::{Command, Operands, Unread, next_command};
 pub use held::Grammar;
+pub use limits::{MOST_ARITY, MOST_CATEGORIES, MOST_DIMENSION, MOST_PRODUCTIONS, MOST_SYMBOLS};
 pub use production::{Constituent, Production};
 pub use stops::{Layer, PackStop};
 pub use symbol::Symbol;

@@ -6,6 +6,7 @@ ghost use Rattle.grammar.specs.Grammars.{no_production};
 ghost use Rattle.grammar.specs.Held.{production_model};
 ghost use Rattle.grammar.specs.Lists.{last_or};
 
+use crate::limits::{MOST_CATEGORIES, MOST_PRODUCTIONS};
 use crate::production::Production;
 use crate::stage::Stage;
 use arrayvec::ArrayVec;
@@ -15,12 +16,13 @@ mod opening;
 
 #[derive(Drop)]
 pub(crate) struct Loader {
+    // Each step asks for its stage in a clause: a type for each would hand all other fields from one to the next.
     stage: Stage,
     kind: u8,
-    dimensions: ArrayVec<u8, 32>,
+    dimensions: ArrayVec<u8, MOST_CATEGORIES>,
     start: u8,
     // The last of them is open at the stages Head and Body.
-    productions: ArrayVec<Production, 128>,
+    productions: ArrayVec<Production, MOST_PRODUCTIONS>,
     // Where the command of the last one stands, 0 where there is none.
     offset: usize,
     ghost low: { (c : ℕ) → slice_index (entries dimensions) c ≤ 2 },

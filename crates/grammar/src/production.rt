@@ -1,16 +1,17 @@
 // A production as it is held.
+use crate::limits::{MOST_ARITY, MOST_DIMENSION, MOST_SYMBOLS};
 use crate::symbol::Symbol;
 use arrayvec::ArrayVec;
 
 mod calls;
 
 // The symbols of a constituent.
-pub type Constituent = ArrayVec<Symbol, 8>;
+pub type Constituent = ArrayVec<Symbol, MOST_SYMBOLS>;
 
 #[derive(Default, Drop)]
 pub struct Production {
     pub(crate) category: u8,
     pub(crate) weight: u16,
-    pub(crate) arguments: ArrayVec<u8, 3>,
-    pub(crate) constituents: ArrayVec<Constituent, 2>,
+    pub(crate) arguments: ArrayVec<u8, MOST_ARITY>,
+    pub(crate) constituents: ArrayVec<Constituent, MOST_DIMENSION>,
 }

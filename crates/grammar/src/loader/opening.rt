@@ -8,6 +8,7 @@ ghost use Rattle.grammar.specs.Loaders.{bare, with_constituents};
 
 use crate::command::Operands;
 use crate::filling::dimension_of;
+use crate::limits::MOST_ARITY;
 use crate::production::{Constituent, Production};
 use crate::symbol::Symbol;
 use arrayvec::ArrayVec;
@@ -30,14 +31,14 @@ impl Operands {
     {
         (self.category as usize) < known
             && 0 < self.weight
-            && self.arity <= 3
+            && usize::from(self.arity) <= MOST_ARITY
             && argument_fits(known, self.arity, 0, self.first)
             && argument_fits(known, self.arity, 1, self.second)
             && argument_fits(known, self.arity, 2, self.third)
     }
 
     // The arguments that count.
-    fn arguments(&self) -> ArrayVec<u8, 3>
+    fn arguments(&self) -> ArrayVec<u8, MOST_ARITY>
         ensures { entries result ≡ take self.now.arity (self.now.first ∷ self.now.second ∷ self.now.third ∷ []) }
     {
         let mut arguments = ArrayVec::from([self.first, self.second, self.third]);
