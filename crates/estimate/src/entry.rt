@@ -1,6 +1,7 @@
 // The entries of the category agenda.
 ghost use Rattle.std.specs.Prelude.{◌≡◌};
-ghost use Rattle.estimate.specs.Entries.{place, blank_entry};
+ghost use Rattle.agenda.specs.Orders.{before};
+ghost use Rattle.estimate.specs.Entries.{cheaper, place, blank_entry};
 ghost use Rattle.estimate.specs.Cheaper.{entries_alike};
 
 use agenda::Slotted;
@@ -34,3 +35,8 @@ impl<W: Weight> Entry<W> {
         }
     }
 }
+
+// An agenda's first entry is the cheapest, and of those the one with the lowest number.
+pub fn order_stands<W: Weight>()
+    ensures { before ⟦<Entry<W> as Ord>⟧.cmp ≡ cheaper W.Weight.algebra W.Weight.exact }
+{}
