@@ -1,15 +1,21 @@
 // The weights of a pack's categories by an estimate.
-ghost use Rattle.std.specs.Prelude.{◌≤◌, length};
-
 use agenda::Cell;
-use estimate::{AcceptedGrammar, Entry, Estimate, WeighedGrammar, blank_row, lightest};
-use grammar::load;
+use estimate::{AcceptedGrammar, Entry, Estimate, WeighedGrammar, lightest};
+use grammar::{MOST_CATEGORIES, load};
 use std::fmt;
+use weight::number::{Joining, Number};
 use weight::weight::Weight;
+
+// A weight for each category that a grammar may have: by its lightest tree, and by an estimate.
+#[derive(Drop)]
+pub(crate) struct Weights<J: Joining> {
+    pub(crate) lightest: [Number<J>; MOST_CATEGORIES],
+    pub(crate) estimate: [Number<J>; MOST_CATEGORIES],
+}
 
 // Why a pack has no weights.
 #[derive(Clone, Copy, PartialEq, Eq, Debug)]
-pub enum Refusal {
+pub(crate) enum Refusal {
     NoGrammar,
     BelowLeast,
 }
@@ -23,42 +29,36 @@ impl fmt::Display for Refusal {
     }
 }
 
-// Fills the rows with the lightest weights and with an estimate of a pack.
-pub fn weigh<W: Weight, E: Estimate<W>>(
-    pack: &[u8],
-    estimate: &E,
-    low: &mut [W],
-    row: &mut [W],
-    spare: &mut [W],
-    cells: &mut [Cell<Entry<W>>],
-) -> Result<(), Refusal>
-    requires low { 32 ≤ length low.old }
-    requires row { 32 ≤ length row.old }
-    requires spare { 32 ≤ length spare.old }
-    requires cells { 32 ≤ length cells.old }
-{
-    let grammar = load(pack).map_err(|_| Refusal::NoGrammar)?;
-    let accepted = AcceptedGrammar::new(&grammar).ok_or(Refusal::BelowLeast)?;
-    fill(accepted, estimate, low, row, spare, cells);
-    Ok(())
+impl<J: Joining> Weights<J> {
+    // None everywhere.
+    fn new() -> Weights<J> {
+        Weights {
+            lightest: [Number::none(); MOST_CATEGORIES],
+            estimate: [Number::none(); MOST_CATEGORIES],
+        }
+    }
+
+    fn fill<E: Estimate<Number<J>>>(
+        &mut self,
+        accepted: AcceptedGrammar<'_, Number<J>>,
+        estimate: &E,
+    ) {
+        let mut spare = [Number::none(); MOST_CATEGORIES];
+        let mut cells = [Cell::new(Entry::blank()); MOST_CATEGORIES];
+        lightest(&accepted, &mut self.lightest, &mut cells);
+        let weighed = WeighedGrammar::new(accepted, &self.lightest);
+        estimate.raise(&weighed, &mut self.estimate, &mut spare, &mut cells);
+    }
 }
 
-fn fill<W: Weight, E: Estimate<W>>(
-    accepted: AcceptedGrammar<'_, W>,
+// The lightest weights of a pack, and its weights by an estimate.
+pub(crate) fn weigh<J: Joining, E: Estimate<Number<J>>>(
+    pack: &[u8],
     estimate: &E,
-    low: &mut [W],
-    row: &mut [W],
-    spare: &mut [W],
-    cells: &mut [Cell<Entry<W>>],
-)
-    requires low { 32 ≤ length low.old }
-    requires row { 32 ≤ length row.old }
-    requires spare { 32 ≤ length spare.old }
-    requires cells { 32 ≤ length cells.old }
-{
-    lightest(&accepted, low, cells);
-    blank_row(row);
-    blank_row(spare);
-    let weighed = WeighedGrammar::new(accepted, low);
-    estimate.raise(&weighed, row, spare, cells);
+) -> Result<Weights<J>, Refusal> {
+    let grammar = load(pack).map_err(|_| Refusal::NoGrammar)?;
+    let accepted = AcceptedGrammar::new(&grammar).ok_or(Refusal::BelowLeast)?;
+    let mut weights = Weights::new();
+    weights.fill(accepted, estimate);
+    Ok(weights)
 }
