@@ -1,8 +1,8 @@
 -- What the steps of a search do to what it has found. Assumes nothing.
-use Rattle.std.proofs.Common.{◌≡◌, ℕ, zero, suc, ◌+◌, ◌<◌, Bool, false, ◌⊎◌, List, [], ◌∷◌, ◌++◌, length, get_or, set, replicate, Some, None, Option, sym, refl, ap, ◌∙◌, subst, inl, inr, arith, get_or-set_other, get_or-set_same}
+use Rattle.std.proofs.Common.{◌≡◌, ℕ, zero, suc, ◌+◌, ◌<◌, Bool, false, ◌⊎◌, List, [], ◌∷◌, ◌++◌, length, get_or, set, replicate, Some, None, Option, Ordering, sym, refl, ap, ◌∙◌, subst, inl, inr, arith, get_or-set_other, get_or-set_same}
 use native.Mathlib.Decide.{ℕ_discrete}
 use Rattle.std.specs.List.{ContainsAt as Has}
-use Rattle.weight.specs.Algebra.{Algebra, Lawful, Le, Within}
+use Rattle.weight.specs.Algebra.{Algebra, Lawful, Le, Compared, Within}
 use Rattle.weight.proofs.Orders.{le_first, le_trans, lt_le, le_lt, lt_le_lt, cases, plus_none}
 use Rattle.std.proofs.lemmas.List.{get_or-replicate, get_or_past, length-map, length-replicate, append-nil, append_assoc}
 use Rattle.std.proofs.lemmas.Bool.{cases_lt}
@@ -11,6 +11,7 @@ use Rattle.std.specs.declared.cmp.PartialEq as PartialEq
 use Rattle.std.specs.declared.cmp.PartialOrd as PartialOrd
 use Rattle.agenda.specs.declared.entry.Slotted as Slotted
 use Rattle.agenda.specs.declared.agenda.Agenda.{Agenda}
+use Rattle.agenda.specs.Orders.{before}
 use Rattle.agenda.specs.Agendas.{Taken, Offered, room, entries, cells_of}
 use Rattle.grammar.specs.Formed.{Each}
 use Rattle.deduction.specs.Deduction.{System, Der, Ders, node, none, more, Derives, DerivesAll, cost, cost_all, sum}
@@ -19,7 +20,7 @@ use Rattle.estimate.specs.declared.rules.Rule.{Rule}
 use Rattle.estimate.specs.Entries.{cheaper, place}
 use Rattle.estimate.specs.Rules.{premises_of, Numbered, system}
 use Rattle.estimate.specs.Searches.{at, Open, worth, AllSettled, Weighed, Reached, Found, Searching, Closed, Solved, Considered, opens}
-use Rattle.estimate.specs.Cheaper.{not_out}
+use Rattle.estimate.specs.Cheaper.{by_cost, by_cost_cheaper, not_out}
 use Rattle.estimate.specs.Frontier.{frontier}
 
 -- ---- combining
@@ -302,6 +303,12 @@ begin A {W} exact nothing D n row es blank no-entry = record {
   settled = λ x shut. absurd (shut (ap (λ r. get_or r x nothing) blank ∙ blank_open nothing n x));
   queued = λ e h. let l = (subst (λ (xs : List (Entry W)). Has xs e) no-entry h).1 in absurd (omega arith);
 }
+
+-- ---- the agenda
+-- what was taken, its order being the one that is derived for entries, is the cheapest
+module _ {A : Algebra} {W : Type 0} (exact : W → A.Exact) (cmp : W → W → Ordering) (compared : (v w : W) → Compared A (exact v) (exact w) (cmp v w)) (laws : Lawful A) (e : Entry W) (xs ys : List (Entry W)) where
+  pub taken_cheaper : Taken (before (by_cost cmp)) place e xs ys → Taken (cheaper A exact) place e xs ys
+  taken_cheaper h = subst (λ (lt : Entry W → Entry W → Bool). Taken lt place e xs ys) (by_cost_cheaper A exact cmp compared laws) h
 
 -- an entry's index is one that there is room for
 module _ {X : Type 0} {slotted : Slotted.Ghosts X} {ord : Ord.Ghosts X} {eq : PartialEq.Ghosts X} {partial : PartialOrd.Ghosts X} where

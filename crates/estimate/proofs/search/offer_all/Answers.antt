@@ -1,4 +1,4 @@
-use Rattle.std.proofs.Common.{◌≡◌, ◌+◌, ◌<◌, List, sym, ap, refl, ◌∙◌, subst, arith}
+use Rattle.std.proofs.Common.{◌+◌, ◌<◌, List, sym, ap, refl, ◌∙◌, subst, arith}
 use Rattle.agenda.specs.Agendas.{room, entries}
 use Rattle.estimate.specs.declared.entry.Entry.{Entry}
 use Rattle.estimate.specs.Searches.{AllOffered}

@@ -1,14 +1,10 @@
-use Rattle.std.proofs.Common.{◌≡◌, ◌<◌, Bool, List, length, set, sym, ap, ◌∙◌, subst, arith}
+use Rattle.std.proofs.Common.{◌≡◌, ◌<◌, List, length, set, sym, ap, ◌∙◌, subst, arith}
 use lib.ListN.{length-replicate}
 use Rattle.std.proofs.lemmas.List.{length-set}
 use Rattle.agenda.specs.Agendas.{entries}
-use Rattle.agenda.specs.Agendas.{Taken}
-use Rattle.estimate.specs.declared.entry.Entry.{Entry}
-use Rattle.estimate.specs.Entries.{cheaper, place}
-use Rattle.estimate.specs.Cheaper.{by_cost_cheaper}
 use Rattle.estimate.specs.Rules.{system}
 use Rattle.estimate.specs.Searches.{Searching, opens}
-use Rattle.estimate.proofs.Searching.{begin, entry_inside, settle, turned, opens_less, solved}
+use Rattle.estimate.proofs.Searching.{begin, taken_cheaper, entry_inside, settle, turned, opens_less, solved}
 use Rattle.estimate.proofs.search.search.Goals as goal
 
 pub loop-e-init : goal.loop-e-init
@@ -42,7 +38,7 @@ loop-e-smaller g c =
     let inv = c.loop-e.invariant in
     let row = c.loop-e.row in
     let e = c.in-Some.e in
-    let taken = subst (λ (lt : Entry g.row.W.Denot → Entry g.row.W.Denot → Bool). Taken lt place e (entries c.loop-e.agenda) (entries c.pop.new.self)) (by_cost_cheaper A exact g.W.Ord.cmp w.compared w.lawful) c.in-Some.ensures.popped in
+    let taken = taken_cheaper exact g.W.Ord.cmp w.compared w.lawful e (entries c.loop-e.agenda) (entries c.pop.new.self) c.in-Some.ensures.popped in
     let l = entry_inside c.loop-e.agenda e taken.member in
     let inside : e.category < length row = omega (arith, l, inv.0, inv.1) in
     let t = turned w.lawful exact nothing w.within w.same w.empty (g.R.Rules.count rules) (g.R.Rules.gives rules) (λ k r h q. (g.met.R.Rules.inside rules k r h q).priced)
@@ -64,7 +60,7 @@ loop-e-preserved g c =
     let row = c.loop-e.row in
     let e = c.in-Some.e in
     let popped = c.in-Some.ensures in
-    let taken = subst (λ (lt : Entry g.row.W.Denot → Entry g.row.W.Denot → Bool). Taken lt place e (entries c.loop-e.agenda) (entries c.pop.new.self)) (by_cost_cheaper A exact g.W.Ord.cmp w.compared w.lawful) popped.popped in
+    let taken = taken_cheaper exact g.W.Ord.cmp w.compared w.lawful e (entries c.loop-e.agenda) (entries c.pop.new.self) popped.popped in
     let l = entry_inside c.loop-e.agenda e taken.member in
     let inside : e.category < length row = omega (arith, l, inv.0, inv.1) in
     let told = c.offer_all-in-Some.ensures in
