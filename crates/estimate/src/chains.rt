@@ -14,10 +14,11 @@ use crate::search::weigh;
 use crate::trees::premises;
 use crate::weighed::WeighedGrammar;
 use arrayvec::ArrayVec;
+use grammar::MOST_ARITY;
 use weight::weight::Weight;
 
 // The categories of the arguments but the one at i, as premises.
-fn fellows(arguments: &[u8], i: usize) -> ArrayVec<usize, 3>
+fn fellows(arguments: &[u8], i: usize) -> ArrayVec<usize, MOST_ARITY>
     requires { (length arguments.now ≤ 3) × (i < length arguments.now) }
     ensures { premises_of result ≡ but i arguments.now }
 {
@@ -27,7 +28,7 @@ fn fellows(arguments: &[u8], i: usize) -> ArrayVec<usize, 3>
 }
 
 // What a step from category a asks for: nothing where that is the start.
-fn way(a: usize, start: usize) -> ArrayVec<usize, 3>
+fn way(a: usize, start: usize) -> ArrayVec<usize, MOST_ARITY>
     ensures { premises_of result ≡ (if nat_eq a start then [] else a ∷ []) }
 {
     let mut way = ArrayVec::new();

@@ -4,13 +4,14 @@ ghost use Rattle.estimate.specs.declared.rules.Rule.{Rule};
 ghost use Rattle.estimate.specs.Rules.{Inside};
 
 use arrayvec::ArrayVec;
+use grammar::MOST_ARITY;
 use weight::weight::Weight;
 
-// A rule with at most three premises.
+// A rule, with as many premises as a production may have arguments.
 #[derive(Drop)]
 pub struct Rule<W> {
     pub result: usize,
-    pub premises: ArrayVec<usize, 3>,
+    pub premises: ArrayVec<usize, MOST_ARITY>,
     pub price: W,
 }
 

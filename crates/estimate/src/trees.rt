@@ -17,10 +17,11 @@ use crate::rules::{Rule, Rules};
 use crate::search::search;
 use agenda::Cell;
 use arrayvec::ArrayVec;
+use grammar::MOST_ARITY;
 use weight::weight::Weight;
 
 // The categories of arguments, as premises.
-pub fn premises(arguments: &[u8]) -> ArrayVec<usize, 3>
+pub fn premises(arguments: &[u8]) -> ArrayVec<usize, MOST_ARITY>
     requires { length arguments.now ≤ 3 }
     ensures { premises_of result ≡ arguments.now }
 {
