@@ -18,7 +18,7 @@ use Rattle.deduction.specs.Deduction.{System, Der, Ders, node, none, more, Deriv
 use Rattle.estimate.specs.declared.entry.Entry.{Entry}
 use Rattle.estimate.specs.declared.rules.Rule.{Rule}
 use Rattle.estimate.specs.Entries.{cheaper, place}
-use Rattle.estimate.specs.Rules.{premises_of, Numbered, system}
+use Rattle.estimate.specs.Rules.{premises_of, Inside, Numbered, system}
 use Rattle.estimate.specs.Searches.{at, Open, worth, AllSettled, Weighed, Reached, Found, Searching, Closed, Solved, Considered, opens}
 use Rattle.estimate.specs.Cheaper.{by_cost, by_cost_cheaper, not_out}
 use Rattle.estimate.specs.Frontier.{frontier}
@@ -187,15 +187,36 @@ module _ {A : Algebra} (laws : Lawful A) {W : Type 0} (exact : W → A.Exact) (n
             elim o [ inl l ↦ laws.irrefl A.none (subst (λ (a : A.Exact). A.lt a A.none) z l) | inr l ↦ laws.irrefl A.none (subst (A.lt A.none) z l) ])
       ]
 
-  module _ (n : ℕ) (gives : ℕ → Option (Rule W) → Type 0) (priced : (k : ℕ) (r : Rule W) → k < n → gives k (Some r) → A.lt A.none (exact r.price)) (row : List W) where
+  -- ---- how many are open
+  opens_less : (row : List W) (x : ℕ) (w : W) → x < length row → at A exact nothing row x ≡ nothing → A.lt A.none (exact w) → suc (opens A exact (set row x w)) ≡ opens A exact row
+  unfolding opens
+  opens_less [] x w h free up = absurd (omega arith)
+  opens_less (v ∷ vs) zero w h free up =
+      let level : exact v ≡ A.none = ap exact free ∙ empty in
+      let T : (exact v ≡ A.none) ⊎ (A.lt (exact v) A.none ⊎ A.lt A.none (exact v)) → ℕ = λ q. elim q [ inl _ ↦ suc (opens A exact vs) | inr _ ↦ opens A exact vs ] in
+      let U : (exact w ≡ A.none) ⊎ (A.lt (exact w) A.none ⊎ A.lt A.none (exact w)) → ℕ = λ q. elim q [ inl _ ↦ suc (opens A exact vs) | inr _ ↦ opens A exact vs ] in
+      let a : T (A.order (exact v) A.none) ≡ suc (opens A exact vs) =
+      elim (A.order (exact v) A.none) as (λ q. T q ≡ suc (opens A exact vs)) [
+        | inl _ ↦ refl
+        | inr o ↦ absurd (elim o [ inl l ↦ laws.irrefl A.none (subst (λ (b : A.Exact). A.lt b A.none) level l) | inr l ↦ laws.irrefl A.none (subst (A.lt A.none) level l) ])
+      ] in
+      let b : U (A.order (exact w) A.none) ≡ opens A exact vs =
+      elim (A.order (exact w) A.none) as (λ q. U q ≡ opens A exact vs) [ inl e ↦ absurd (laws.irrefl A.none (subst (A.lt A.none) e up)) | inr _ ↦ refl ] in
+      ap suc b ∙ sym a
+  opens_less (v ∷ vs) (suc x) w h free up =
+      let rest : suc (opens A exact (set vs x w)) ≡ opens A exact vs = opens_less vs x w (omega arith) free up in
+      let T : ℕ → (exact v ≡ A.none) ⊎ (A.lt (exact v) A.none ⊎ A.lt A.none (exact v)) → ℕ = λ k q. elim q [ inl _ ↦ suc k | inr _ ↦ k ] in
+      elim (A.order (exact v) A.none) as (λ q. suc (T (opens A exact (set vs x w)) q) ≡ T (opens A exact vs) q) [ inl _ ↦ ap suc rest | inr _ ↦ rest ]
+
+  module _ (n : ℕ) (gives : ℕ → Option (Rule W) → Type 0) {items : ℕ} (fit : (k : ℕ) (r : Rule W) → k < n → gives k (Some r) → Inside A exact items r) (row : List W) where
     abbrev R : System A
     R = system A exact n gives
 
     -- every derivation costs something
-    pub above : (d : Der R.Rule) (x : ℕ) → Derives R d x → A.lt A.none (cost R d)
+    above : (d : Der R.Rule) (x : ℕ) → Derives R d x → A.lt A.none (cost R d)
     above (node r ds) x h =
         let w = exact r.1.price in
-        lt_le_lt laws A.none w (A.plus w (cost_all R ds)) (priced r.0 r.1 r.2 r.3) (le_first laws w (cost_all R ds))
+        lt_le_lt laws A.none w (A.plus w (cost_all R ds)) (fit r.0 r.1 r.2 r.3).priced (le_first laws w (cost_all R ds))
 
     abbrev value : ℕ → A.Exact
     value x = exact (at A exact nothing row x)
@@ -205,7 +226,7 @@ module _ {A : Algebra} (laws : Lawful A) {W : Type 0} (exact : W → A.Exact) (n
       least_of x shut = (s.settled x shut).least
 
       -- where P holds of what waits and of what is above the ceiling, it holds of every derivation of an open item
-      pub reach : (P : A.Exact → Type 0) → ((a b : A.Exact) → P a → Le A a b → P b) → ((a : A.Exact) → A.lt A.ceiling a → P a) → ((e : Entry W) → Has xs e → P (exact e.cost))
+      reach : (P : A.Exact → Type 0) → ((a b : A.Exact) → P a → Le A a b → P b) → ((a : A.Exact) → A.lt A.ceiling a → P a) → ((e : Entry W) → Has xs e → P (exact e.cost))
           → (d : Der R.Rule) (x : ℕ) → Derives R d x → Open A exact nothing row x → P (cost R d)
       reach P up over waits =
           frontier laws R value (Open A exact nothing row) (decide row) least_of P up (λ r all free.
@@ -267,32 +288,11 @@ module _ {A : Algebra} (laws : Lawful A) {W : Type 0} (exact : W → A.Exact) (n
               (other f.category was.1 ∙ before.0, before.1);
         }
 
-        -- and it was not settled before, but is now
-        pub turned : Open A exact nothing row e.category × A.lt A.none (exact e.cost)
-        turned =
+        -- and fewer are open: it was not settled before, but is now
+        pub fewer : suc (opens A exact row') ≡ opens A exact row
+        fewer =
             let was = s.queued e t.member in
-            (was.0, subst (A.lt A.none) was.1.2 (above was.1.0 e.category was.1.1))
-
-  -- ---- how many are open
-  pub opens_less : (row : List W) (x : ℕ) (w : W) → x < length row → at A exact nothing row x ≡ nothing → A.lt A.none (exact w) → suc (opens A exact (set row x w)) ≡ opens A exact row
-  unfolding opens
-  opens_less [] x w h free up = absurd (omega arith)
-  opens_less (v ∷ vs) zero w h free up =
-      let level : exact v ≡ A.none = ap exact free ∙ empty in
-      let T : (exact v ≡ A.none) ⊎ (A.lt (exact v) A.none ⊎ A.lt A.none (exact v)) → ℕ = λ q. elim q [ inl _ ↦ suc (opens A exact vs) | inr _ ↦ opens A exact vs ] in
-      let U : (exact w ≡ A.none) ⊎ (A.lt (exact w) A.none ⊎ A.lt A.none (exact w)) → ℕ = λ q. elim q [ inl _ ↦ suc (opens A exact vs) | inr _ ↦ opens A exact vs ] in
-      let a : T (A.order (exact v) A.none) ≡ suc (opens A exact vs) =
-      elim (A.order (exact v) A.none) as (λ q. T q ≡ suc (opens A exact vs)) [
-        | inl _ ↦ refl
-        | inr o ↦ absurd (elim o [ inl l ↦ laws.irrefl A.none (subst (λ (b : A.Exact). A.lt b A.none) level l) | inr l ↦ laws.irrefl A.none (subst (A.lt A.none) level l) ])
-      ] in
-      let b : U (A.order (exact w) A.none) ≡ opens A exact vs =
-      elim (A.order (exact w) A.none) as (λ q. U q ≡ opens A exact vs) [ inl e ↦ absurd (laws.irrefl A.none (subst (A.lt A.none) e up)) | inr _ ↦ refl ] in
-      ap suc b ∙ sym a
-  opens_less (v ∷ vs) (suc x) w h free up =
-      let rest : suc (opens A exact (set vs x w)) ≡ opens A exact vs = opens_less vs x w (omega arith) free up in
-      let T : ℕ → (exact v ≡ A.none) ⊎ (A.lt (exact v) A.none ⊎ A.lt A.none (exact v)) → ℕ = λ k q. elim q [ inl _ ↦ suc k | inr _ ↦ k ] in
-      elim (A.order (exact v) A.none) as (λ q. suc (T (opens A exact (set vs x w)) q) ≡ T (opens A exact vs) q) [ inl _ ↦ ap suc rest | inr _ ↦ rest ]
+            opens_less row e.category e.cost inside was.0 (subst (A.lt A.none) was.1.2 (above was.1.0 e.category was.1.1))
 
 -- ---- the beginning
 pub blank_open : {W : Type 0} (nothing : W) (n x : ℕ) → get_or (replicate n nothing) x nothing ≡ nothing

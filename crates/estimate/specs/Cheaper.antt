@@ -1,9 +1,9 @@
 -- The order of entries: by cost and then by number, as the exact weights say. Assumes nothing.
-use Rattle.std.specs.Prelude.{◌≡◌, ℕ, ◌≤◌, Bool, true, false, ltb, cond, ◌⊎◌, ◌==◌, nat_lt}
+use Rattle.std.specs.Prelude.{◌≡◌, ◌≤◌, Bool, true, false, ltb, cond, ◌⊎◌, ◌==◌, nat_lt}
 use Rattle.std.proofs.Math.Path.{refl}
-use Rattle.std.proofs.Common.{Ordering, Less, Equal, Greater, is_lt, nat_cmp, sym, subst, ◌∙◌, arith}
+use Rattle.std.proofs.Common.{Ordering, Less, Equal, Greater, is_lt, nat_cmp, sym, subst, ◌∙◌}
 use Rattle.std.proofs.Math.Logic.{inl, inr}
-use Rattle.std.proofs.lemmas.Bool.{ltb-false}
+use Rattle.std.proofs.lemmas.Bool.{both_ways, ltb-false}
 use Rattle.std.specs.Ordering.{ordering_then}
 use Rattle.weight.specs.Algebra.{Algebra, Lawful, Le, Compared}
 use Rattle.weight.proofs.Orders.{le_eq, lt_le}
@@ -11,9 +11,6 @@ use Rattle.agenda.specs.Levels.{nat_level, then_level}
 use Rattle.agenda.specs.Orders.{before}
 use Rattle.estimate.specs.declared.entry.Entry.{Entry}
 use Rattle.estimate.specs.Entries.{cheaper}
-
-never : true ≡ false → ⊥
-never p = let z : ◌≡◌ {A = ℕ} 0 1 = cc in omega arith
 
 -- whether the answer is `Less` is the test by which it was found
 first_test : (b c : Bool) → is_lt (cond b Less (cond c Equal Greater)) ≡ b
@@ -58,7 +55,7 @@ module _ {A : Algebra} (laws : Lawful A) {W : Type 0} (exact : W → A.Exact) wh
 
     pub not_out : cheaper A exact x y ≡ false → Le A b a × (a ≡ b → y.category ≤ x.category)
     not_out h = (
-      λ l. never (sym (cheaper_less l) ∙ h),
+      λ l. both_ways (cheaper A exact x y) h (cheaper_less l),
       λ e. ltb-false x.category y.category (sym (cheaper_level e) ∙ h),
     )
 

@@ -4,7 +4,7 @@ use Rattle.std.proofs.Math.Path.{refl, ap}
 use Rattle.std.proofs.Common.{sym, subst, ◌∙◌}
 use Rattle.std.proofs.Math.Logic.{inl, inr}
 use native.Mathlib.Omega.{arith}
-use Rattle.std.proofs.lemmas.Bool.{eq-eqb, ne_eqb, cases_eq}
+use Rattle.std.proofs.lemmas.Bool.{both_ways, eq-eqb, ne_eqb, cases_eq}
 use Rattle.weight.specs.Algebra.{Algebra, Lawful, Le}
 use Rattle.weight.proofs.Orders.{le_refl, le_trans}
 use Rattle.grammar.specs.Formed.{Each}
@@ -24,9 +24,6 @@ either (Some x) = inl (x, refl)
 
 pub some_none : {X : Type 0} {o : Option X} {x : X} → o ≡ Some x → o ≢ None
 some_none p q = let z : ◌≡◌ {A = ℕ} 0 1 = cc in omega arith
-
-never : true ≡ false → ⊥
-never p = let z : ◌≡◌ {A = ℕ} 0 1 = cc in omega arith
 
 -- ---- entries
 module _ {E : Type 0} (e : Entry E) (es : List (Entry E)) where
@@ -103,7 +100,7 @@ module _ {A : Algebra} (laws : Lawful A) where
 
   -- the one picked is one of the two, and not dearer than either
   picked : (b : Bool) (e f : X) → cheaper A (λ v. v) f e ≡ b → ((cond b f e ≡ e) ⊎ (cond b f e ≡ f)) × Le A (cond b f e).cost e.cost × Le A (cond b f e).cost f.cost
-  picked true e f h = (inr refl, (λ l. never (sym h ∙ cheaper_more laws (λ v. v) f e l)), le_refl laws f.cost)
+  picked true e f h = (inr refl, (λ l. both_ways (cheaper A (λ v. v) f e) (cheaper_more laws (λ v. v) f e l) h), le_refl laws f.cost)
   picked false e f h = (inl refl, le_refl laws e.cost, (not_out laws (λ v. v) f e h).0)
 
   one_value : {o : Option X} {e f : X} → o ≡ Some e → o ≡ Some f → e ≡ f

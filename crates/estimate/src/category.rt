@@ -35,10 +35,7 @@ fn row_weight<W: Capped>(chains: &[W], c: usize, start: usize) -> W
     if c == start {
         return W::none();
     }
-    match settled(chains, c) {
-        Some(w) => w,
-        None => W::ceiling(),
-    }
+    settled(chains, c).unwrap_or(W::ceiling())
 }
 
 // Raises a row by what the estimate has at each category.

@@ -7,8 +7,6 @@ use weight::weight::Weight;
 pub fn blank_row<W: Weight>(row: &mut [W])
     ensures { row.new ≡ replicate (length row.old) W.Weight.nothing }
 {
-    // `fill` clones, and a bound `Copy` does not say what its `clone` gives.
-    for w in row.iter_mut() {
-        *w = W::none();
-    }
+    let nothing = W::none();
+    row.fill_with(|| nothing);
 }

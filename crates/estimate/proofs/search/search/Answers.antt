@@ -4,7 +4,7 @@ use Rattle.std.proofs.lemmas.List.{length-set}
 use Rattle.agenda.specs.Agendas.{entries}
 use Rattle.estimate.specs.Rules.{system}
 use Rattle.estimate.specs.Searches.{Searching, opens}
-use Rattle.estimate.proofs.Searching.{begin, taken_cheaper, entry_inside, settle, turned, opens_less, solved}
+use Rattle.estimate.proofs.Searching.{begin, taken_cheaper, entry_inside, settle, fewer, solved}
 use Rattle.estimate.proofs.search.search.Goals as goal
 
 pub loop-e-init : goal.loop-e-init
@@ -41,11 +41,10 @@ loop-e-smaller g c =
     let taken = taken_cheaper exact g.W.Ord.cmp w.compared w.lawful e (entries c.loop-e.agenda) (entries c.pop.new.self) c.in-Some.ensures.popped in
     let l = entry_inside c.loop-e.agenda e taken.member in
     let inside : e.category < length row = omega (arith, l, inv.0, inv.1) in
-    let t = turned w.lawful exact nothing w.within w.same w.empty (g.R.Rules.count rules) (g.R.Rules.gives rules) (λ k r h q. (g.met.R.Rules.inside rules k r h q).priced)
+    let less = fewer w.lawful exact nothing w.within w.same w.empty (g.R.Rules.count rules) (g.R.Rules.gives rules) (g.met.R.Rules.inside rules)
     row (entries c.loop-e.agenda) inv.2 inv.3 e (entries c.pop.new.self) taken inside in
-    let fewer = opens_less w.lawful exact nothing w.within w.same w.empty row e.category e.cost inside t.0 t.1 in
     let now : opens A exact c.settle.new.row ≡ opens A exact (set row e.category e.cost) = ap (opens A exact) c.settle.ensures in
-    omega (arith, fewer, now)
+    omega (arith, less, now)
 
 pub loop-e-preserved : goal.loop-e-preserved
 loop-e-preserved g c =
@@ -64,7 +63,7 @@ loop-e-preserved g c =
     let l = entry_inside c.loop-e.agenda e taken.member in
     let inside : e.category < length row = omega (arith, l, inv.0, inv.1) in
     let told = c.offer_all-in-Some.ensures in
-    let settled = settle w.lawful exact nothing w.within w.same w.empty n gives (λ k r h q. (g.met.R.Rules.inside rules k r h q).priced)
+    let settled = settle w.lawful exact nothing w.within w.same w.empty n gives (g.met.R.Rules.inside rules)
     row (entries c.loop-e.agenda) inv.2 inv.3 e (entries c.pop.new.self) taken inside in
     let S : List g.row.W.Denot → Type 0 = λ r. Searching A exact nothing (system A exact n gives) r (entries c.pop.new.self) in
     let all = told.offered (subst S (sym c.settle.ensures) settled) in (
@@ -79,5 +78,5 @@ returns-clause-solved g c = λ x h.
     let w = g.met.W.Weight in
     let rules = c.args.rules.now in
     let inv = c.loop-e.invariant in
-    solved w.lawful g.W.Weight.exact g.W.Weight.nothing w.within w.same w.empty (g.R.Rules.count rules) (g.R.Rules.gives rules) (λ k r l q. (g.met.R.Rules.inside rules k r l q).priced)
+    solved w.lawful g.W.Weight.exact g.W.Weight.nothing w.within w.same w.empty (g.R.Rules.count rules) (g.R.Rules.gives rules) (g.met.R.Rules.inside rules)
     c.loop-e.row (entries c.loop-e.agenda) inv.2 inv.3 c.in_default.ensures.popped.0 x (omega (arith, h, inv.1))
