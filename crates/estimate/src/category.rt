@@ -38,7 +38,7 @@ fn row_weight<W: Capped>(chains: &[W], c: usize, start: usize) -> W
     settled(chains, c).unwrap_or(W::ceiling())
 }
 
-// Raises a row by what the estimate has at each category.
+// Raises a row by what the estimate has at each category c.
 fn raise_by<W: Capped>(row: &mut [W], chains: &[W], start: usize)
     requires { length row.old ≡ length chains.now }
     ensures { RaisedBy W.Weight.algebra W.Weight.exact W.Weight.nothing start chains.now row.old row.new (length row.old) }

@@ -51,14 +51,14 @@ impl<'a, W: Weight> Rules<W> for WeighedGrammar<'a, W> {
     ghost inside = { λ s k r h. let m = model s.accepted.grammar.now in chain_inside W.Weight.lawful W.Weight.exact m (formed_is m s.accepted.grammar.now.well_formed) s.accepted.accepted k r };
 
     fn size(&self) -> usize {
-        3 * production_count(self.accepted.grammar)
+        MOST_ARITY * production_count(self.accepted.grammar)
     }
 
     fn rule(&self, k: usize) -> Option<Rule<W>> {
         let grammar = self.accepted.grammar;
-        let production = production_at(grammar, k / 3);
+        let production = production_at(grammar, k / MOST_ARITY);
         let arguments = production.arguments();
-        let i = k % 3;
+        let i = k % MOST_ARITY;
         let result = usize::from(*arguments.get(i)?);
         let start = usize::from(grammar.start());
         if result == start {

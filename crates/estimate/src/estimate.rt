@@ -18,7 +18,7 @@ pub trait Estimate<W: Weight> {
     // The weight of each category, given by the grammar alone.
     ghost own: { GrammarModel → ℕ → W };
 
-    // Leaves at each category the larger of what the row held and its own weight. The spare row and the agenda's cells are lent blank, for the work, and given back blank.
+    // Leaves at each category the larger of what the row held and its own weight. The spare row and the agenda's cells are lent blank, for the work, and given back blank; whoever lends the row and these tables looks at them afterwards, so each is a parameter.
     fn raise(
         &self,
         weighed: &WeighedGrammar<'_, W>,

@@ -12,7 +12,7 @@ use crate::rules::{Rule, Rules};
 use agenda::{Agenda, Cell, blank};
 use weight::weight::Weight;
 
-// The weight at a settled item.
+// The weight at a settled item. A row has none at the others: no derivation weighs none, so none needs no mark of its own.
 pub fn settled<W: Weight>(row: &[W], x: usize) -> Option<W>
     requires { x < length row.now }
     ensures { MatchOption result (Open W.Weight.algebra W.Weight.exact W.Weight.nothing row.now x) (λ w. (w ≡ at W.Weight.algebra W.Weight.exact W.Weight.nothing row.now x) × (Open W.Weight.algebra W.Weight.exact W.Weight.nothing row.now x → ⊥)) }

@@ -58,7 +58,7 @@ impl<'a, W: Weight> Rules<W> for AcceptedGrammar<'a, W> {
     }
 }
 
-// The lightest weights in a row and by an agenda that are as long as there are categories.
+// The lightest weights in a row and by an agenda that are as long as there are categories: what lies beyond is cut off before, so that nothing has to be said of it here.
 fn lightest_whole<W: Weight>(
     accepted: &AcceptedGrammar<'_, W>,
     row: &mut [W],
