@@ -1,6 +1,6 @@
 // The entries of the category agenda.
 ghost use Rattle.std.specs.Prelude.{◌≡◌};
-ghost use Rattle.agenda.specs.Orders.{before};
+ghost use Rattle.agenda.specs.Orders.{Ordered, before};
 ghost use Rattle.estimate.specs.Entries.{cheaper, place, blank_entry};
 ghost use Rattle.estimate.specs.Cheaper.{entries_alike};
 
@@ -38,5 +38,6 @@ impl<W: Weight> Entry<W> {
 
 // An agenda's first entry is the cheapest, and of those the one with the lowest number.
 pub fn order_stands<W: Weight>()
-    ensures { before ⟦<Entry<W> as Ord>⟧.cmp ≡ cheaper W.Weight.algebra W.Weight.exact }
+    ensures cheapest { before ⟦<Entry<W> as Ord>⟧.cmp ≡ cheaper W.Weight.algebra W.Weight.exact }
+    ensures ordered { Ordered (cheaper W.Weight.algebra W.Weight.exact) }
 {}
