@@ -1,5 +1,5 @@
 // A whole command list, run from its last command to its first, and the phrase that it leaves.
-ghost use Rattle.std.specs.Prelude.{◌≡◌, ◌%◌, ◌∷◌, [], length, Ok, Err, MatchResult};
+ghost use Rattle.std.specs.Prelude.{◌≡◌, ◌%◌, length, Ok, Err, MatchResult};
 ghost use Rattle.grammar.specs.Held.{production_model};
 ghost use Rattle.grammar.specs.Model.{model};
 ghost use Rattle.replay.specs.Laws.{Gives, Replayed};

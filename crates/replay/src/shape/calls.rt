@@ -23,7 +23,7 @@ pub(crate) fn total(shapes: &[Shape]) -> usize
 
 // The shapes are of the arguments' categories.
 pub(crate) fn fits(arguments: &[u8], shapes: &[Shape]) -> bool
-    requires { length arguments.now ≡ length shapes.now }
+    requires { length arguments.now ≤ length shapes.now }
     ensures { result ≡ fit arguments.now (map (λ s. s.category) shapes.now) }
 {
     for (argument, shape) in arguments.iter().zip(shapes) {

@@ -39,7 +39,7 @@ impl ReplayStop {
     }
 
     // The stop in words, which its figure ends.
-    fn what(&self) -> &'static str
+    fn reason(&self) -> &'static str
         ensures { result.now ≡ what self.now }
     {
         match self {
@@ -67,7 +67,7 @@ impl fmt::Display for ReplayStop {
     fn fmt<W: fmt::Write>(&self, f: &mut fmt::Formatter<W>) -> fmt::Result {
         let number = self.number();
         let figure = self.figure();
-        let what = self.what();
-        write!(f, "stop {number}: {what} {figure}")
+        let reason = self.reason();
+        write!(f, "stop {number}: {reason} {figure}")
     }
 }
