@@ -1,9 +1,8 @@
 -- Yields whose tokens lie end to end.
-use Rattle.std.proofs.Common.{◌≡◌, ℕ, zero, suc, ◌+◌, ◌<◌, ◌≤◌, Bool, true, false, ◌&&◌, eqb, List, [], ◌∷◌, ◌++◌, map, length, get_or, take, drop, sum, sym, refl, ap, ◌∙◌, ap₂, arith, append_assoc, length-append, length-drop}
-use Rattle.std.proofs.lemmas.List.{drop-drop, get_or_past, length-map, length-take-le, take_at, drop_at, nil_from_length}
-use Rattle.std.proofs.lemmas.Bool.{and_left, ne_eqb}
+use Rattle.std.proofs.Common.{◌≡◌, ℕ, zero, suc, ◌+◌, ◌<◌, ◌≤◌, ◌&&◌, eqb, List, [], ◌∷◌, ◌++◌, map, length, get_or, take, drop, sum, sym, refl, ap, ◌∙◌, ap₂, arith, append_assoc, length-append, length-drop}
+use Rattle.std.proofs.lemmas.List.{drop-drop, get_or_past, length-map, length-take-le, take_at, drop_at}
 use Rattle.std.proofs.lemmas.List.Sums.{sum_by-cons, sum_by_more_le}
-use Rattle.std.specs.List.{concat}
+use Rattle.std.specs.List.{concat, list_all, zip}
 use Rattle.grammar.specs.Trees.{tokens_in}
 use Rattle.replay.specs.Replays.{Yields, fit, categories_on, strings_on, tokens_on}
 use Rattle.replay.specs.Shapes.{Shape, size, total, cut, laid_out, Put}
@@ -127,13 +126,7 @@ module _ (before : List ℕ) where
     put_longer = omega (arith, ap length put.tokens, length-append (concat xs) before, length_joined xs, put_size)
 
 -- the categories are tested one by one
-module _ (w : Bool) (cs : List ℕ) (ss : List Shape) (is : w ≡ fit cs (categories ss)) where
-  module _ (c : ℕ) (s : Shape) (ds : List ℕ) (rs : List Shape) (c-is : cs ≡ c ∷ ds) (s-is : ss ≡ s ∷ rs) where
-    fit_next : w ≡ (eqb s.category c && fit ds (categories rs))
-    fit_next = is ∙ ap₂ (λ a b. fit a (categories b)) c-is s-is
-
-    pub fit_other : (s.category ≡ c → ⊥) → false ≡ w
-    fit_other h = sym (fit_next ∙ and_left _ _ (ne_eqb _ _ h))
-
-  pub fit_none : length cs ≤ 0 → true ≡ w
-  fit_none h = sym (is ∙ ap (λ a. fit a (categories ss)) (nil_from_length cs (omega arith)))
+pub fit_zip : (cs : List ℕ) (ss : List Shape) → length cs ≤ length ss → list_all (λ p. eqb p.1.category p.0) (zip cs ss) ≡ fit cs (categories ss)
+fit_zip [] ss h = refl
+fit_zip (c ∷ cs) [] h = absurd (omega arith)
+fit_zip (c ∷ cs) (s ∷ ss) h = ap (λ b. eqb s.category c && b) (fit_zip cs ss (omega arith))

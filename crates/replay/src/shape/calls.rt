@@ -26,10 +26,8 @@ pub(crate) fn fits(arguments: &[u8], shapes: &[Shape]) -> bool
     requires { length arguments.now ≤ length shapes.now }
     ensures { result ≡ fit arguments.now (map (λ s. s.category) shapes.now) }
 {
-    for (argument, shape) in arguments.iter().zip(shapes) {
-        if shape.category != *argument {
-            return false;
-        }
-    }
-    true
+    arguments
+        .iter()
+        .zip(shapes)
+        .all(|(argument, shape)| shape.category == *argument)
 }

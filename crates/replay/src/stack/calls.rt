@@ -38,7 +38,7 @@ impl Stack {
         let taken = Front { shapes, tokens };
         taken
             .spell_all(production.constituents(), &tokens[total(shapes)..])
-            .or(Err(ReplayStop::TooLong { at }))
+            .map_err(|_| ReplayStop::TooLong { at })
     }
 
     // The production's arguments are taken from the top, and its yield is put back.

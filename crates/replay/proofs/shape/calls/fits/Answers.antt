@@ -1,14 +1,12 @@
-use Rattle.std.proofs.Common.{arith, inl, inr}
-use Rattle.replay.proofs.Laid.{fit_other, fit_none}
+use Rattle.std.proofs.Common.{eqb, rules, tests, ◌∙◌}
+use Rattle.std.proofs.lemmas.Iterator.{YieldsList-from_slice, YieldsList-from_zip}
+use Rattle.std.proofs.lemmas.Iterator.Search.{all_from_yields_List}
+use Rattle.replay.proofs.Laid.{fit_zip}
 use Rattle.replay.proofs.shape.calls.fits.Goals as goal
-
-pub returns-then-shape-argument : goal.returns-then-shape-argument
-returns-then-shape-argument c =
-    let s = c.in-Some.ensures.steps in
-    fit_other _ c.loop-argument.argument-iterator.a.rest.now c.loop-argument.argument-iterator.b.rest.now c.loop-argument.invariant.1
-    c.in-Some.argument.now c.in-Some.shape.now c.next.new.self.a.rest.now c.next.new.self.b.rest.now s.0 s.1 c.if-shape-argument.true
 
 pub returns : goal.returns
 returns c =
-    fit_none _ c.loop-argument.argument-iterator.a.rest.now c.loop-argument.argument-iterator.b.rest.now c.loop-argument.invariant.1
-    (elim c.in-None.ensures.steps [ inl h ↦ omega (arith, h.1.0) | inr h ↦ omega (arith, h.1.0, c.loop-argument.invariant.0) ])
+    let cs = c.args.arguments.now in
+    let ss = c.args.shapes.now in
+    all_from_yields_List (λ p. eqb p.1.category p.0) c.all.new.self _ c.all.result c.all.ensures.ran (YieldsList-from_zip (YieldsList-from_slice cs cc) (YieldsList-from_slice ss cc)) (λ x b q h. search (rules, tests))
+    ∙ fit_zip cs ss c.requires

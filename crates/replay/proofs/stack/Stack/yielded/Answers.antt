@@ -1,10 +1,11 @@
-use Rattle.std.proofs.Common.{◌≡◌, ◌≤◌, ◌++◌, map, length, take, ap, ap₂, sym, ◌∙◌, arith, inl, inr, Ok, Err, Result, MatchResult}
+use Rattle.std.proofs.Common.{◌≡◌, ◌≤◌, ◌++◌, map, length, take, ap, ap₂, sym, ◌∙◌, arith, inl, inr, Ok, Err, Result, MatchResult, subst, rules, tests}
 use Rattle.std.specs.List.{concat}
-use Rattle.std.specs.Result.{result_or}
+use Rattle.std.specs.Result.{IsErrAnd}
 use Rattle.grammar.specs.Trees.{tokens_in}
 use Rattle.replay.specs.declared.stops.ReplayStop.TheVariants.{TooLong}
 use Rattle.grammar.specs.Held.{production_model}
 use Rattle.replay.specs.Replays.{fit}
+use Rattle.replay.specs.Stacks.{Stops}
 use Rattle.replay.proofs.Laid.{categories}
 use Rattle.replay.proofs.Performing as performing
 use Rattle.replay.proofs.stack.Stack.yielded.Goals as goal
@@ -35,11 +36,12 @@ returns-then-not-fits c =
     performing.wrong_category (production_model c.args.production.now) c.args.at c.args.self.now (enough at)
     (sym (c.if-not-fits.ensures ∙ ap₂ (λ a s. fit a (categories s)) c.arguments-arguments.ensures (shapes at)))
 
--- an answer whose error `or` puts another in the place of
-handed : {X E F : Type 0} (q : Result X E) (d : F) (P R : X → Type 0) (Q : F → Type 0) (S : E → Type 0)
-    → MatchResult q R S → ((x : X) → R x → P x) → ((e : E) → S e → Q d) → MatchResult (result_or q (Err d)) P Q
-handed (Ok x) d P R Q S h f g = f x h
-handed (Err e) d P R Q S h f g = g e h
+-- an answer in whose error's place another is put
+handed : {X E F : Type 0} (q : Result X E) (r : Result X F) (P R : X → Type 0) (Q : F → Type 0) (S : E → Type 0) (T : E → F → Type 0)
+    → MatchResult q R S → MatchResult q (λ x. r ≡ Ok x) (λ e. IsErrAnd r (T e)) → ((x : X) → R x → P x) → ((e : E) (d : F) → S e → T e d → Q d) → MatchResult r P Q
+handed (Ok x) r P R Q S T h m f g = subst (λ o. MatchResult o P Q) (sym m) (f x h)
+handed (Err e) (Ok y) P R Q S T h m f g = absurd m
+handed (Err e) (Err d) P R Q S T h m f g = g e d h m
 
 pub returns : goal.returns
 returns c =
@@ -49,12 +51,13 @@ returns c =
     let fits = sym (c.if-not-fits.ensures ∙ ap₂ (λ a s. fit a (categories s)) c.arguments-arguments.ensures (shapes at)) in
     let strings = performing.strings_are r c.args.at s c.in-Some.shapes.now c.as_slice-tokens.result.now _ (shapes at) c.as_slice-tokens.ensures.value c.constituents.ensures in
     let behind = performing.behind_is r c.args.at s c.in-Some.shapes.now c.as_slice-tokens.result.now c.total.result (shapes at) c.as_slice-tokens.ensures.value c.total.ensures in
-    rw c.or.ensures
-    (handed c.spell_all.result (TooLong c.args.at) _ _ _ _ c.spell_all.ensures
+    handed c.spell_all.result c.map_err.result _ _ _ _ _ c.spell_all.ensures c.map_err.ensures.cases
     (λ made put. record {
       enough = performing.enough_on r c.args.at s (enough at);
       fits = performing.fits_on r c.args.at s (enough at) fits;
       put = record { long = put.0.long ∙ ap (map length) strings; tokens = put.0.tokens ∙ ap₂ (λ ys ts. concat ys ++ ts) strings behind };
       few = put.1;
     })
-    (λ _ over. performing.too_long r c.args.at s (enough at) fits (omega (arith, over, ap tokens_in strings, ap length behind))))
+    (λ e d over is.
+    let same : TooLong c.args.at ≡ d = search (rules, tests) in
+    subst (λ d. Stops r c.args.at s d) same (performing.too_long r c.args.at s (enough at) fits (omega (arith, over, ap tokens_in strings, ap length behind))))
