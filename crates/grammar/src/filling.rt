@@ -1,5 +1,5 @@
 // Whether a production's constituents are filled, and name every constituent of its arguments.
-ghost use Rattle.std.specs.Prelude.{◌≡◌, ℕ, suc, ◌+◌, ◌<◌, ◌≤◌, map, length};
+ghost use Rattle.std.specs.Prelude.{◌≡◌, suc, ◌+◌, map};
 ghost use Rattle.grammar.specs.Checks.{all, all_below, any, has_some, is_part, named, names_all};
 ghost use Rattle.grammar.specs.Entries.{entries};
 ghost use Rattle.grammar.specs.Grammars.{dimension};
@@ -24,7 +24,7 @@ fn is_part(symbol: Symbol, k: usize, l: usize) -> bool
         Symbol::Part {
             argument,
             constituent,
-        } => argument as usize == k && constituent as usize == l,
+        } => usize::from(argument) == k && usize::from(constituent) == l,
     }
 }
 
@@ -53,7 +53,7 @@ fn names_argument(constituents: &[Constituent], k: usize, dimension: u8) -> bool
 pub(crate) fn dimension_of(dimensions: &[u8], category: u8) -> u8
     ensures { result ≡ dimension dimensions.now category }
 {
-    dimensions.get(category as usize).copied().unwrap_or(0)
+    dimensions.get(usize::from(category)).copied().unwrap_or(0)
 }
 
 // Every constituent of every argument is named.

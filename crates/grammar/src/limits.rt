@@ -14,3 +14,6 @@ pub const MOST_DIMENSION: usize = 2;
 
 // How many arguments a production has at most.
 pub const MOST_ARITY: usize = 3;
+
+// The byte of an argument that is not used.
+pub(crate) const UNUSED: u8 = 255;

@@ -4,6 +4,7 @@ ghost use Rattle.grammar.specs.Checks.{has_some, in_constituent, is_open};
 ghost use Rattle.grammar.specs.Entries.{entries};
 ghost use Rattle.grammar.specs.Grammars.{no_production};
 ghost use Rattle.grammar.specs.Held.{production_model};
+ghost use Rattle.grammar.specs.Limits.{most_dimension};
 ghost use Rattle.grammar.specs.Lists.{last_or};
 
 use crate::limits::{MOST_CATEGORIES, MOST_PRODUCTIONS};
@@ -16,7 +17,7 @@ mod opening;
 
 #[derive(Drop)]
 pub(crate) struct Loader {
-    // Each step asks for its stage in a clause: a type for each would hand all other fields from one to the next.
+    // A step may be taken only at its stage, which its clause asks; a type for each stage would hand all other fields from one to the next.
     stage: Stage,
     kind: u8,
     dimensions: ArrayVec<u8, MOST_CATEGORIES>,
@@ -25,7 +26,7 @@ pub(crate) struct Loader {
     productions: ArrayVec<Production, MOST_PRODUCTIONS>,
     // Where the command of the last one stands, 0 where there is none.
     offset: usize,
-    ghost low: { (c : ℕ) → slice_index (entries dimensions) c ≤ 2 },
+    ghost low: { (c : ℕ) → slice_index (entries dimensions) c ≤ most_dimension },
     ghost some: { is_open stage ≡ true → 1 ≤ length (entries productions) },
     ghost body: { is_open stage ≡ true → has_some (last_or no_production (map production_model (entries productions))).constituents ≡ in_constituent stage },
 }

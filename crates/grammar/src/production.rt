@@ -8,7 +8,8 @@ mod calls;
 // The symbols of a constituent.
 pub type Constituent = ArrayVec<Symbol, MOST_SYMBOLS>;
 
-#[derive(Default, Drop)]
+// What Default makes fills the unused places of a list. A production is moved, or cloned where two are wanted.
+#[derive(Clone, Default, Drop)]
 pub struct Production {
     pub(crate) category: u8,
     pub(crate) weight: u16,

@@ -1,7 +1,5 @@
 // What a loaded grammar holds.
 ghost use Rattle.std.specs.Prelude.{◌≡◌, map};
-ghost use Rattle.std.specs.Option.{option_map};
-ghost use Rattle.std.specs.List.{slice_get};
 ghost use Rattle.grammar.specs.Held.{production_model};
 ghost use Rattle.grammar.specs.Model.{model};
 

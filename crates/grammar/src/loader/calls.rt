@@ -1,6 +1,6 @@
 // One command more: it moves the load on, or stops it.
-ghost use Rattle.std.specs.Prelude.{◌≡◌, ◌<◌, ◌≤◌, true, length, map, OnOk, if◌then◌else◌, nat_lt, slice_index};
-ghost use Rattle.grammar.specs.Limits.{most_categories};
+ghost use Rattle.std.specs.Prelude.{◌≡◌, ◌<◌, ◌≤◌, true, length, map, OnOk, if◌then◌else◌, nat_lt};
+ghost use Rattle.grammar.specs.Limits.{most_categories, most_dimension, most_symbols};
 ghost use Rattle.grammar.specs.declared.stops.PackStop.TheVariants.{Misplaced, TooMany};
 ghost use Rattle.grammar.specs.Checks.{fills_all, is_open};
 ghost use Rattle.grammar.specs.Commands.{Category, Constituent, Part, Production as Opens, Start, Token, is_end};
@@ -16,6 +16,7 @@ ghost use Rattle.grammar.specs.Tested.{formed};
 use crate::command::{Command, Operands};
 use crate::filling::{dimension_of, each_has_some, names_each};
 use crate::held::Grammar;
+use crate::limits::MOST_DIMENSION;
 use crate::loader::Loader;
 use crate::production::{Constituent, Production};
 use crate::stage::Stage;
@@ -46,11 +47,11 @@ impl Loader {
         &self.productions[self.productions.len() - 1]
     }
 
-    // The dimension of its category.
+    // The dimension of the open production's category.
     fn open_dimension(&self) -> u8
         requires { is_open self.now.stage ≡ true }
         ensures value { result ≡ dimension (draft_of self.now).dimensions (draft_of self.now).opened.category }
-        ensures most { result ≤ 2 }
+        ensures most { result ≤ most_dimension }
     {
         dimension_of(self.dimensions.as_slice(), self.opened().category())
     }
@@ -62,7 +63,7 @@ impl Loader {
         if self.dimensions.is_full() {
             return Err(PackStop::TooMany { at });
         }
-        if dimension == 0 || 2 < dimension {
+        if dimension == 0 || MOST_DIMENSION < usize::from(dimension) {
             return Err(PackStop::BadOperand { at });
         }
         self.dimensions.push(dimension);
@@ -101,7 +102,7 @@ impl Loader {
     {
         let constituents = production.constituents();
         let dimension = dimension_of(self.dimensions.as_slice(), production.category());
-        dimension as usize <= constituents.len() && each_has_some(constituents)
+        usize::from(dimension) <= constituents.len() && each_has_some(constituents)
     }
 
     // Closes the production whose last constituent is open.
@@ -170,7 +171,7 @@ impl Loader {
         requires { self.old.stage ≡ Body }
         ensures { Stepped at self.old Constituent result self.new }
     {
-        if self.opened().constituents().len() >= self.open_dimension() as usize {
+        if self.opened().constituents().len() >= usize::from(self.open_dimension()) {
             return Err(PackStop::TooMany { at });
         }
         if self.current().is_empty() {
@@ -184,7 +185,7 @@ impl Loader {
     // Adds a symbol to the constituent that is open.
     fn add_symbol(&mut self, symbol: Symbol)
         requires body { self.old.stage ≡ Body }
-        requires room { length (draft_of self.old).opened.current < 8 }
+        requires room { length (draft_of self.old).opened.current < most_symbols }
         ensures stage { self.new.stage ≡ Body }
         ensures draft { draft_of self.new ≡ with_symbol (draft_of self.old) symbol }
     {

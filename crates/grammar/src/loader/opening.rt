@@ -1,26 +1,27 @@
 // The production that is open, and what its operands must be.
-ghost use Rattle.std.specs.Prelude.{◌≡◌, ℕ, ◌+◌, ◌<◌, ◌≤◌, Bool, [], ◌∷◌, ◌++◌, map, length, take};
+ghost use Rattle.std.specs.Prelude.{◌≡◌, ◌+◌, ◌<◌, ◌≤◌, [], ◌∷◌, ◌++◌, length, take};
 ghost use Rattle.grammar.specs.Checks.{argument_fits, part_fits, production_fits};
 ghost use Rattle.grammar.specs.Entries.{entries};
 ghost use Rattle.grammar.specs.Held.{production_model};
+ghost use Rattle.grammar.specs.Limits.{most_dimension, most_symbols};
 ghost use Rattle.grammar.specs.Lists.{all_but_last, last_or};
 ghost use Rattle.grammar.specs.Loaders.{bare, with_constituents};
 
 use crate::command::Operands;
 use crate::filling::dimension_of;
-use crate::limits::MOST_ARITY;
+use crate::limits::{MOST_ARITY, UNUSED};
 use crate::production::{Constituent, Production};
 use crate::symbol::Symbol;
 use arrayvec::ArrayVec;
 
-// Argument number i, from 0, is a known category, or 255 where the arity leaves it unused.
+// Argument number i, from 0, is a known category, or UNUSED where the arity leaves it so.
 fn argument_fits(known: usize, arity: u8, i: u8, argument: u8) -> bool
     ensures { result ≡ argument_fits known arity i argument }
 {
     if i < arity {
-        (argument as usize) < known
+        usize::from(argument) < known
     } else {
-        argument == 255
+        argument == UNUSED
     }
 }
 
@@ -29,7 +30,7 @@ impl Operands {
     pub(crate) fn fit(&self, known: usize) -> bool
         ensures { result ≡ production_fits known self.now }
     {
-        (self.category as usize) < known
+        usize::from(self.category) < known
             && 0 < self.weight
             && usize::from(self.arity) <= MOST_ARITY
             && argument_fits(known, self.arity, 0, self.first)
@@ -42,7 +43,7 @@ impl Operands {
         ensures { entries result ≡ take self.now.arity (self.now.first ∷ self.now.second ∷ self.now.third ∷ []) }
     {
         let mut arguments = ArrayVec::from([self.first, self.second, self.third]);
-        arguments.truncate(self.arity as usize);
+        arguments.truncate(usize::from(self.arity));
         arguments
     }
 }
@@ -62,7 +63,7 @@ impl Production {
 
     // Opens its next constituent.
     pub(crate) fn open_constituent(&mut self)
-        requires { length (entries self.old.constituents) < 2 }
+        requires { length (entries self.old.constituents) < most_dimension }
         ensures { production_model self.new ≡ with_constituents (production_model self.old) ((production_model self.old).constituents ++ [] ∷ []) }
     {
         self.constituents.push(Constituent::new());
@@ -71,7 +72,7 @@ impl Production {
     // Adds a symbol to its last constituent.
     pub(crate) fn add_symbol(&mut self, symbol: Symbol)
         requires some { 1 ≤ length (entries self.old.constituents) }
-        requires room { length (last_or [] (production_model self.old).constituents) < 8 }
+        requires room { length (last_or [] (production_model self.old).constituents) < most_symbols }
         ensures { production_model self.new ≡ with_constituents (production_model self.old)
             (all_but_last (production_model self.old).constituents ++ (last_or [] (production_model self.old).constituents ++ symbol ∷ []) ∷ []) }
     {
@@ -86,7 +87,7 @@ impl Production {
         if argument == 0 || constituent == 0 {
             return false;
         }
-        match self.arguments.get(argument as usize - 1) {
+        match self.arguments.get(usize::from(argument) - 1) {
             Some(&category) => constituent <= dimension_of(dimensions, category),
             None => false,
         }
