@@ -1,9 +1,8 @@
--- The laws of sums and of odds: both are numbers, and keep the laws of weights. Assumes nothing.
-use Rattle.std.proofs.Common.{mul-lt-mul_of_pos_right, mul_comm, mul_assoc, one-mul, arith, refl, rules}
+-- Sums and odds keep the laws of weights. Assumes nothing.
+use Rattle.std.proofs.Common.{mul-lt-mul_of_pos_right, mul_comm, mul_assoc, one-mul, arith, rules}
 use Rattle.weight.specs.Algebra.{Lawful}
-use Rattle.weight.specs.Numbers.{Numbers}
-use Rattle.weight.specs.Sums.{sums, most_sum}
-use Rattle.weight.specs.Odds.{odds, most_odds, same_number}
+use Rattle.weight.specs.Sums.{sums}
+use Rattle.weight.specs.Odds.{odds, same_number}
 
 pub odds_lawful : Lawful odds
 odds_lawful = record {
@@ -25,29 +24,3 @@ odds_lawful = record {
 
 pub sums_lawful : Lawful sums
 sums_lawful = search rules
-
-abbrev pub sum_numbers : Numbers sums 0 most_sum
-sum_numbers = record {
-  lawful = sums_lawful;
-  weight = λ n h. n;
-  shows = λ n h. refl;
-  once = λ a b e. e;
-  from = λ a. omega arith;
-  rises = λ a b h. h;
-  none = refl;
-  ceiling = refl;
-  taken = λ n h. refl;
-}
-
-abbrev pub odds_numbers : Numbers odds 1 most_odds
-odds_numbers = record {
-  lawful = odds_lawful;
-  weight = λ n h. record { number = n; positive = h };
-  shows = λ n h. refl;
-  once = λ a b e. same_number e;
-  from = λ a. a.positive;
-  rises = λ a b h. h;
-  none = refl;
-  ceiling = refl;
-  taken = λ n h. omega (arith, h);
-}

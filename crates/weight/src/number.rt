@@ -9,7 +9,7 @@ use std::marker::PhantomData;
 
 pub mod weighing;
 
-// How the numbers of a kind combine.
+// A kind whose exact weights are numbers: how they combine, and where they begin and end.
 pub trait Joining {
     // The kind's number in a pack, and the least weight number that it takes.
     const KIND: u8;
@@ -44,7 +44,6 @@ pub trait Joining {
 }
 
 // A number from that of none up to the ceiling.
-#[derive(Drop)]
 #[derive_where(PartialEq, Eq, PartialOrd, Ord)]
 pub struct Number<J: Joining> {
     value: u32,

@@ -1,11 +1,12 @@
 // Odds: weights that multiply up to four thousand million.
 ghost use Rattle.std.specs.Prelude.{refl};
 ghost use Rattle.weight.specs.Odds.{odds, most_odds};
-ghost use Rattle.weight.specs.KindLaws.{odds_numbers};
+ghost use Rattle.weight.specs.Kinds.{odds_numbers};
 
 use crate::number::{Joining, Number};
 use crate::weight::WeightNumber;
 
+// Weights whose numbers multiply.
 pub struct Multiplying;
 
 pub type Odds = Number<Multiplying>;
@@ -36,6 +37,6 @@ impl Joining for Multiplying {
     ghost least = { refl };
 
     fn join(a: u32, b: u32) -> u64 {
-        a as u64 * b as u64
+        u64::from(a) * u64::from(b)
     }
 }

@@ -1,11 +1,12 @@
 // Sums: weights that add up to a thousand million.
 ghost use Rattle.std.specs.Prelude.{refl};
 ghost use Rattle.weight.specs.Sums.{sums, most_sum};
-ghost use Rattle.weight.specs.KindLaws.{sum_numbers};
+ghost use Rattle.weight.specs.Kinds.{sum_numbers};
 
 use crate::number::{Joining, Number};
 use crate::weight::WeightNumber;
 
+// Weights whose numbers add.
 pub struct Adding;
 
 pub type Sums = Number<Adding>;
@@ -36,6 +37,6 @@ impl Joining for Adding {
     ghost least = { refl };
 
     fn join(a: u32, b: u32) -> u64 {
-        a as u64 + b as u64
+        u64::from(a) + u64::from(b)
     }
 }

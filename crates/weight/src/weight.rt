@@ -24,7 +24,6 @@ pub trait Weight: Copy + Ord {
     // The value that holds none.
     ghost nothing: { Self };
 
-    // The value that holds none.
     fn none() -> Self
         ensures { result ≡ nothing };
 
@@ -41,7 +40,7 @@ pub trait Weight: Copy + Ord {
 
     ghost lawful: { Lawful algebra };
 
-    // The constants are those of the exact weights, and the values are ordered as they are.
+    // The constants are those of the exact weights, and the values are ordered as the exact weights that they hold.
     ghost kind: { KIND ≡ algebra.kind };
 
     ghost least: { LEAST ≡ algebra.least };

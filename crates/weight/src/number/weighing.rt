@@ -44,13 +44,13 @@ impl<J: Joining> Weight for Number<J> {
         if n < J::LEAST {
             None
         } else {
-            Some(Number::of(n as u32))
+            Some(Number::of(u32::from(n)))
         }
     }
 
     fn combine(self, other: Number<J>) -> Option<Number<J>> {
         let value = J::join(self.value, other.value);
-        if value > J::CEILING as u64 {
+        if value > u64::from(J::CEILING) {
             return None;
         }
         Some(Number::of(value as u32))

@@ -5,4 +5,5 @@ use Rattle.weight.proofs.number.weighing.NumberWeight.take.Goals as goal
 pub of-requires : goal.of-requires
 of-requires g c =
     let least = g.met.J.Joining.least in
-    taken_within g.J.Joining.numbers c.args.n (omega (arith, least, c.LEAST.ensures, c.if-n-LEAST.false)) (omega (arith, c.ranges.n.fits))
+    rw c.from.ensures
+    (taken_within g.J.Joining.numbers c.args.n (omega (arith, least, c.LEAST.ensures, c.if-n-LEAST.false)) (omega (arith, c.ranges.n.fits)))
