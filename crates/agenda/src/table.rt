@@ -7,7 +7,7 @@ use crate::cells::Cell;
 use crate::entry::Slotted;
 
 // What an agenda is while entries move: the slot of each entry's index says where it lies, but a child may come before its parent.
-// It is lent the agenda's cells for the time of a call, and is no field of the agenda: of a slice that lies in a struct in a struct, a caller learns nothing at the end of its life.
+// It is lent the agenda's cells for the time of a call. A field of the agenda it can't be: of a slice behind two structs the check tells the lender nothing when they end.
 #[derive(Drop)]
 pub struct Table<'a, E: Slotted> {
     cells: &'a mut [Cell<E>],

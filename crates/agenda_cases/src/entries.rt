@@ -13,7 +13,7 @@ pub struct Task {
 }
 
 impl Task {
-    // Whether it costs less, or as much at a node before the other's.
+    // Whether it costs less, or as much at a node before the other's: by `cheaper` this says what the derived order is.
     pub fn is_cheaper(&self, other: &Task) -> bool
         ensures { result ≡ cheaper self.now other.now }
     {
@@ -48,7 +48,7 @@ impl Peak {
         }
     }
 
-    // Whether it is higher, or as high at a place before the other's.
+    // Whether it is higher, or as high at a place before the other's: by `higher` this says what the derived order is.
     pub fn is_higher(&self, other: &Peak) -> bool
         ensures { result ≡ higher self.now other.now }
     {
@@ -62,6 +62,6 @@ impl Slotted for Peak {
     ghost alike = { peaks_alike };
 
     fn slot_index(&self) -> usize {
-        self.place as usize
+        usize::from(self.place)
     }
 }

@@ -1,5 +1,5 @@
 // An agenda in the front of a longer slice.
-ghost use Rattle.std.specs.Prelude.{◌≡◌, ℕ, ◌≤◌, length, drop};
+ghost use Rattle.std.specs.Prelude.{◌≡◌, ◌≤◌, length, drop};
 
 use crate::entries::Task;
 use agenda::{Agenda, Cell};

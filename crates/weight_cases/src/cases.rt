@@ -1,5 +1,4 @@
 // What the cases ask of a kind: the combination of two numbers' weights, and what is shown of an answer.
-ghost use Rattle.std.specs.Prelude.{◌≡◌};
 ghost use Rattle.weight_cases.specs.Pairs.{Paired, Shown};
 
 use weight::weight::{Weight, WeightNumber};

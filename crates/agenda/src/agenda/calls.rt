@@ -19,7 +19,7 @@ impl<'a, E: Slotted> Agenda<'a, E> {
         Agenda { cells, len: 0 }
     }
 
-    // The entry at i.
+    // The entry at i. A table holds a `&mut`, so none can be made of a `&self`.
     fn entry(&self, i: usize) -> E
         requires { i < count self.now }
         ensures { (d : E) → result ≡ slice_index_or (entries self.now) i d }
@@ -67,6 +67,7 @@ impl<'a, E: Slotted> Agenda<'a, E> {
         ensures untouched { (n : ℕ) → Bounded E.index (entries self.new) n → drop n (cells_of self.new) ≡ drop n (cells_of self.old) }
     {
         let len = self.len;
+        // Each call makes its table by itself: the check doesn't cover a method that hands one out over the agenda's own `&mut`.
         let cells = &mut *self.cells;
         let mut table = Table::new(cells, len);
         table.push(e);

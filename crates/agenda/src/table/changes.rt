@@ -1,5 +1,5 @@
 // Entries added to a heap, taken out of it, and put in the place of another.
-ghost use Rattle.std.specs.Prelude.{◌≡◌, ℕ, ◌+◌, ◌<◌, false, ◌∷◌, length, slice_index_or, slice_set};
+ghost use Rattle.std.specs.Prelude.{◌≡◌, ◌+◌, ◌<◌, false, ◌∷◌, length, slice_index_or, slice_set};
 ghost use Rattle.std.specs.List.Sorted.{IsPermutation};
 ghost use Rattle.agenda.specs.Orders.{before, Heap, First};
 ghost use Rattle.agenda.specs.Places.{Absent, Present};

@@ -1,5 +1,5 @@
 // A table, and what it holds.
-ghost use Rattle.std.specs.Prelude.{◌≡◌, ℕ, ◌+◌, ◌*◌, ◌<◌, ◌≤◌, length, slice_index_or};
+ghost use Rattle.std.specs.Prelude.{◌≡◌, ◌+◌, ◌*◌, ◌<◌, ◌≤◌, length, slice_index_or};
 ghost use Rattle.agenda.specs.Orders.{before, FirstChild};
 ghost use Rattle.agenda.specs.Places.{Placed};
 ghost use Rattle.agenda.specs.Cells.{held, slots_of};

@@ -1,5 +1,5 @@
 // Moves of entries in a table, up or down, until it is a heap.
-ghost use Rattle.std.specs.Prelude.{ℕ, ◌<◌};
+ghost use Rattle.std.specs.Prelude.{◌<◌};
 ghost use Rattle.std.specs.List.Sorted.{IsPermutation};
 ghost use Rattle.agenda.specs.Orders.{before, Heap, Up, Down};
 ghost use Rattle.agenda.specs.Places.{Swaps};

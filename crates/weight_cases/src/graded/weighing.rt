@@ -49,7 +49,7 @@ impl Weight for Graded {
         if n < Self::LEAST {
             None
         } else {
-            Some(Graded::of(n as u32, 0))
+            Some(Graded::of(u32::from(n), 0))
         }
     }
 
