@@ -43,13 +43,3 @@ next_less p q b e = (subst (Follows p) e (follows p)).1
 
 pub next_none : (p : List ℕ) → next_of p ≡ None → (length p ≡ 0 → ⊥) → bytes_of p ≡ None
 next_none p e n = subst (Follows p) e (follows p) (λ z. n (ap length z))
-
-pub at_byte : (p : List ℕ) (b : ℕ) → 3 ≤ length p → get_or p 0 0 ≡ 32 → Some b ≡ byte_of (get_or p 1 0) (get_or p 2 0)
-    → next_of p ≡ Some (b, take (length p - 3) (drop 3 p))
-at_byte [] b l e h = absurd (omega arith)
-at_byte (s ∷ []) b l e h = absurd (omega arith)
-at_byte (s ∷ x ∷ []) b l e h = absurd (omega arith)
-at_byte (s ∷ x ∷ y ∷ r) b l e h =
-    ap (λ t. cond t (with_rest (byte_of x y) r) None) (eq-eqb s 32 e)
-    ∙ ap (λ o. with_rest o r) (sym h)
-    ∙ ap {B = Option (ℕ × List ℕ)} (λ q. Some (b, q)) (sym (take_rest (s ∷ x ∷ y ∷ r) 3))

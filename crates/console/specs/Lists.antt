@@ -1,4 +1,4 @@
--- What is said of a function that prints the entries of a list, one at a call.
+-- What is said of a function that prints the entries of a list, one at a call. Assumes nothing.
 --   Appends post spell   a call appends what `spell` makes of the entry and of its place
 use Rattle.std.specs.Prelude.{◌≡◌, ℕ, List, ◌++◌, OnOk, string_bytes, Result}
 use Rattle.std.specs.declared.string.String.{String}

@@ -4,7 +4,7 @@ ghost use Rattle.console.specs.Decimal.{number_of};
 ghost use Rattle.console.specs.Steps.{most};
 
 // The number that a text spells, if it spells one that is at most 65535.
-// It isn't `parse`, which takes a sign in front.
+// Not `parse`, which would take a sign in front.
 pub(crate) fn number_of(text: &[u8]) -> Option<u16>
     ensures { result ≡ number_of most text.now }
 {

@@ -44,7 +44,7 @@ pub fn drive(rt: &HostRuntime) -> io::Result<()> {
     let heap = rt.alloc();
     let mut input = BufReader::new(heap, rt.stdin())?;
     let mut session = Session::new();
-    // A count, since a loop has to be shown to end; no `split` at line ends, since only the end tells `\r\n` from a `\r` that the input ends with.
+    // Counted, since every loop has to end; and by `read_until` and not by `split`, since only a line's end tells `\r\n` from a `\r` at the end of the input.
     for _ in 0..u64::MAX {
         let mut line = Vec::new(heap);
         if input.read_until(b'\n', &mut line)? == 0 {

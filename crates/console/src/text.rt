@@ -2,7 +2,7 @@
 ghost use Rattle.std.specs.Prelude.{◌≡◌, ℕ, List, [], ◌++◌, length, IfOk, if◌then◌else◌, Err, string_bytes, OnOk, nat_eq};
 ghost use Rattle.replay.specs.Replays.{replay_of};
 ghost use Rattle.console.specs.Lists.{Appends};
-ghost use Rattle.console.specs.Texts.{argument_text, category_text, constituent_text, content_text, counts_text, figure_text, grammar_text, head_text, kind_text, listed, no_pack, pack_text, played_text, production_text, reply_text, room_text, start_text, stop_text, symbol_text, token_text, tokens_text};
+ghost use Rattle.console.specs.Texts.{argument_text, category_text, constituent_text, content_text, figure_text, grammar_text, listed, no_pack, pack_text, played_text, production_text, reply_text, room_text, stop_text, symbol_text, token_text, tokens_text};
 ghost use Rattle.grammar.specs.Entries.{entries};
 ghost use Rattle.grammar.specs.Held.{production_model};
 ghost use Rattle.grammar.specs.Model.{model};

@@ -1,8 +1,7 @@
 // Calls told by name, made one after another on one line, which may be sealed and reopened between them.
 ghost use Rattle.std.specs.Prelude.{◌≡◌, ◌+◌, ◌≤◌, length};
 ghost use Rattle.line.specs.Room.{room};
-ghost use Rattle.line.specs.Stops.{told};
-ghost use Rattle.line.specs.Runs.{Made, Past, HeldOf, content_of, tokens_in, after, reply, replied, made, spelled, stops_in, calls_in, stop_count, skip_count};
+ghost use Rattle.line.specs.Runs.{Past, HeldOf, content_of, tokens_in, after, reply, replied, made, spelled, stops_in, calls_in};
 
 use crate::line::{Line, Phrase};
 use crate::stop::LineStop;

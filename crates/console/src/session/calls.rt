@@ -78,7 +78,7 @@ impl Session {
     {
         match &self.grammar {
             Some(grammar) => {
-                let mut output = vec![in heap; 0; self.room as usize]?;
+                let mut output = vec![in heap; 0; usize::from(self.room)]?;
                 played_line(heap, grammar, commands, &mut output)
             }
             None => no_pack_line(heap),
