@@ -86,8 +86,7 @@ pub fn run_calls(calls: &[Call]) -> Ran
         match answer {
             Ok(()) => {}
             Err(Refusal::Stopped(_)) => stopped += 1,
-            Err(Refusal::IsSealed) => unmade += 1,
-            Err(Refusal::NotSealed) => unmade += 1,
+            Err(Refusal::IsSealed | Refusal::NotSealed) => unmade += 1,
         }
     }
     Ran {
