@@ -6,6 +6,7 @@
 --   content_text k   the tokens of a line or a phrase
 --   reply_text       the answer to a call on one
 --   played_text o    the outcome of a replay
+--   fault_text f     why a line asks for nothing
 use Rattle.std.specs.Prelude.{ℕ, ◌+◌, cond, List, [], ◌∷◌, ◌++◌, length, Ok, Err, codes, decimal, Result, ◌==◌}
 use Rattle.grammar.specs.Grammars.{ProductionModel, GrammarModel}
 use Rattle.grammar.specs.declared.symbol.Symbol.{Symbol}
@@ -13,6 +14,8 @@ use Rattle.grammar.specs.Printed.{layer_text, symbol_text as printed}
 use Rattle.grammar.specs.Stops.{Stop}
 use Rattle.line.specs.Stops as line
 use Rattle.replay.specs.Stops as replay
+use Rattle.console.specs.declared.step.Fault.{Fault}
+use Rattle.console.specs.declared.step.Fault.TheVariants as fault
 use Rattle.line.specs.Runs.{Content, Keying, Keyed, Reply, Made, WhileSealed, WhileOpen}
 
 abbrev pub listed : {X : Type 0} → (ℕ → X → List ℕ) → ℕ → List X → List ℕ
@@ -97,3 +100,8 @@ played_text (Err o) = figure_text o.number o.figure
 
 abbrev pub no_pack : List ℕ
 no_pack = codes "refused: no pack is loaded\n"
+
+abbrev pub fault_text : Fault → List ℕ
+fault_text fault.UnknownCommand = codes "no such command"
+fault_text fault.NoBytes = codes "the operands are bytes, two lowercase hexadecimal digits each, with one space between them"
+fault_text (fault.NoNumber n) = codes "the operand is a number from 0 to " ++ decimal n

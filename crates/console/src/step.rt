@@ -1,8 +1,9 @@
 // What a line of a script asks for.
-ghost use Rattle.std.specs.Prelude.{◌≡◌, MatchOption};
+ghost use Rattle.std.specs.Prelude.{◌≡◌, MatchOption, Some};
 ghost use Rattle.std.specs.Result.{result_ok};
 ghost use Rattle.console.specs.Decimal.{number_of};
 ghost use Rattle.console.specs.Steps.{AsksFor, NoWord, Parsed, Wordless, blank, most};
+ghost use Rattle.console.specs.Texts.{fault_text};
 ghost use Rattle.console.specs.declared.step.ParseError.TheVariants as error;
 
 use crate::decimal::number_of;
@@ -35,6 +36,8 @@ pub enum Fault {
 }
 
 impl fmt::Display for Fault {
+    ghost output = { λ f. Some (fault_text f) };
+
     fn fmt<W: fmt::Write>(&self, f: &mut fmt::Formatter<W>) -> fmt::Result {
         match *self {
             Fault::UnknownCommand => write!(f, "no such command"),
