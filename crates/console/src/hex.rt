@@ -33,7 +33,8 @@ fn next_byte(text: &[u8]) -> Option<(u8, &[u8])>
     Some((byte_of(*high, *low)?, rest))
 }
 
-// The bytes that a text spells, if it spells any. `None` tells of the text and `Err` of the memory, so the one stands in the other.
+// The bytes that a text spells, if it spells any.
+// `None` says that the text spells no bytes, `Err` that there is no memory for them.
 pub(crate) fn bytes_of(heap: Global, text: &[u8]) -> Result<Option<Vec<u8>>, AllocError>
     ensures { IfOk result (λ o. option_map vec_items o ≡ bytes_of text.now) }
 {
