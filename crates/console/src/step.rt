@@ -57,6 +57,7 @@ pub(crate) enum ParseError {
     OutOfMemory(AllocError),
 }
 
+// Both conversions are by hand, so that a clause knows which case a `?` makes.
 impl From<Fault> for ParseError {
     ghost from_gives = { λ f e. e ≡ error.Fault f };
 

@@ -108,6 +108,7 @@ pub(crate) fn grammar_lines(heap: Global, grammar: &Grammar) -> Result<String, A
     Ok(out)
 }
 
+// As for a symbol, but one for both would have to say what any `Display` writes.
 fn push_token(out: &mut String, i: usize, token: &u16) -> Result<(), AllocError>
     ensures { OnOk result (string_bytes out.new ≡ string_bytes out.old ++ token_text i token.now) }
 {

@@ -3,6 +3,7 @@ ghost use Rattle.std.specs.Prelude.{◌≡◌, Ok, Err, MatchResult};
 ghost use Rattle.grammar.specs.Commands.{next_of, wide, is_end};
 
 // The operands of a PRODUCTION: the arity says how many of the three arguments count.
+// Three fields and no array, since a clause sees an array as a list of any length.
 #[derive(Clone, Copy)]
 pub struct Operands {
     pub category: u8,

@@ -16,6 +16,7 @@ pub(crate) fn each_has_some(constituents: &[Constituent]) -> bool
         .all(|constituent| !constituent.is_empty())
 }
 
+// By hand and not by `==`, since k and l are counts and a part's numbers are bytes.
 fn is_part(symbol: Symbol, k: usize, l: usize) -> bool
     ensures { result ≡ is_part k l symbol }
 {

@@ -12,6 +12,7 @@ pub(crate) const MOST_TOKENS: usize = 15;
 
 pub(crate) type Tokens = ArrayVec<u16, MOST_TOKENS>;
 
+// The tokens lie in one list, so that there is room for 15 of all yields and not of each.
 #[derive(Drop)]
 pub(crate) struct Stack {
     pub(crate) shapes: ArrayVec<Shape, MOST_TOKENS>,

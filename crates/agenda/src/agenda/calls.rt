@@ -9,6 +9,7 @@ use crate::cells::Cell;
 use crate::entry::Slotted;
 use crate::table::Table;
 
+// Each call that changes an agenda says that it is as long, the same slice, and untouched beyond its indices: that relates two states, so the type can't say it.
 impl<'a, E: Slotted> Agenda<'a, E> {
     // An empty agenda, whatever the cells hold.
     pub fn new(cells: &'a mut [Cell<E>]) -> Agenda<'a, E>
@@ -93,7 +94,7 @@ impl<'a, E: Slotted> Agenda<'a, E> {
         Some(first)
     }
 
-    // Puts e in the place of the entry with its index, if there is one and e comes before it.
+    // Puts e in the place of the entry with its index, if there is one and e comes before it; whether it did.
     pub fn improve(&mut self, e: E) -> bool
         requires { E.index e < room self.old }
         ensures room { room self.new ≡ room self.old }

@@ -56,6 +56,7 @@ impl Session {
         ensures text { IfOk result (λ s. string_bytes s ≡ call_text (state_of self.old).content call) }
         ensures state { state_of self.new ≡ with_content (state_of self.old) (after (state_of self.old).content call) }
     {
+        // A call takes what is held by value, so a fresh line stands in for it meanwhile.
         let held = replace(&mut self.held, Held::Open(Line::new()));
         let (held, answer) = held.perform(call);
         let text = reply_line(heap, answer, &held);
