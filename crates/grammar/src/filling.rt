@@ -47,6 +47,7 @@ fn names(constituents: &[Constituent], k: usize, l: usize) -> bool
 fn names_argument(constituents: &[Constituent], k: usize, dimension: u8) -> bool
     ensures { result ≡ all_below dimension (λ j. named k (suc j) (map entries constituents.now)) }
 {
+    // `as` and not `usize::from`, with which the check finds no proof of the chain.
     (0..dimension).all(|j| names(constituents, k, j as usize + 1))
 }
 
