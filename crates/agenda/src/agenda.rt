@@ -8,6 +8,7 @@ use crate::cells::Cell;
 use crate::entry::Slotted;
 
 // The first `len` cells hold entries as a binary heap: no child comes before its parent, and the slot of each entry's index says where it lies. An index below the number of cells can be held.
+// The cells are lent and not owned, since these crates have no heap.
 #[derive(Drop)]
 pub struct Agenda<'a, E: Slotted> {
     cells: &'a mut [Cell<E>],

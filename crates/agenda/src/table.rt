@@ -8,6 +8,7 @@ use crate::entry::Slotted;
 
 // What an agenda is while entries move: the slot of each entry's index says where it lies, but a child may come before its parent.
 // It is lent the agenda's cells for the time of a call. A field of the agenda it can't be: of a slice behind two structs the check tells the lender nothing when they end.
+// Its cells are lent too, with the length beside them, for the same reason as the agenda's.
 #[derive(Drop)]
 pub struct Table<'a, E: Slotted> {
     cells: &'a mut [Cell<E>],

@@ -27,6 +27,7 @@ impl Slotted for Task {
     ghost alike = { tasks_alike };
 
     fn slot_index(&self) -> usize {
+        // From 32 bits to `usize` there is no From.
         self.node as usize
     }
 }

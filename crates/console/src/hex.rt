@@ -5,6 +5,7 @@ ghost use Rattle.console.specs.Hex.{byte_of, bytes_of, digit_of, next_of};
 
 use std::alloc::{AllocError, Global};
 
+// By hand: the library's hex takes uppercase digits too, and no space before a byte.
 fn digit_of(c: u8) -> Option<u8>
     ensures { result ≡ digit_of c }
 {
@@ -40,6 +41,7 @@ pub(crate) fn bytes_of(heap: Global, text: &[u8]) -> Result<Option<Vec<u8>>, All
 {
     let mut bytes = Vec::new(heap);
     let mut rest = text;
+    // Bytes are taken off the front: this counts nothing.
     while !rest.is_empty() {
         let Some((byte, after)) = next_byte(rest) else {
             return Ok(None);

@@ -39,7 +39,7 @@ pub trait Estimate<W: Weight> {
     ghost sound: { (m : GrammarModel) → WellFormed m → Sound W.Weight.algebra m (λ c. W.Weight.exact (own m c)) };
 }
 
-// None everywhere.
+// None everywhere. The head of `raise` in each impl is the trait's.
 #[derive(Clone, Copy)]
 pub struct Null;
 

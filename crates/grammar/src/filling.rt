@@ -51,7 +51,7 @@ fn names_argument(constituents: &[Constituent], k: usize, dimension: u8) -> bool
     (0..dimension).all(|j| names(constituents, k, j as usize + 1))
 }
 
-// The dimension of a category, 0 where there is no such category.
+// The dimension of a category, 0 where there is no such category, as the definition has it.
 pub(crate) fn dimension_of(dimensions: &[u8], category: u8) -> u8
     ensures { result ≡ dimension dimensions.now category }
 {

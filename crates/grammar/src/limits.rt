@@ -15,5 +15,5 @@ pub const MOST_DIMENSION: usize = 2;
 // How many arguments a production has at most.
 pub const MOST_ARITY: usize = 3;
 
-// The byte of an argument that is not used.
+// The byte of an argument that is not used: the format says so, hence no Option.
 pub(crate) const UNUSED: u8 = 255;

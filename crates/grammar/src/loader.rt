@@ -24,7 +24,7 @@ pub(crate) struct Loader {
     start: u8,
     // The last of them is open at the stages Head and Body.
     productions: ArrayVec<Production, MOST_PRODUCTIONS>,
-    // Where the command of the last one stands, 0 where there is none.
+    // Where the command of the last one stands, 0 where there is none, as the definition has it.
     offset: usize,
     ghost low: { (c : ℕ) → slice_index (entries dimensions) c ≤ most_dimension },
     ghost some: { is_open stage ≡ true → 1 ≤ length (entries productions) },

@@ -1,4 +1,5 @@
 // Lines that are keyed, rubbed, wiped, sealed and reopened, run through the console.
+// A program of its own, since a program has one standard input.
 #![tactic(auto)]
 
 use std::io;

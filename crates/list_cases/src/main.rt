@@ -1,4 +1,5 @@
 // Command lists that are replayed or stopped, run through the console.
+// A program of its own, since a program has one standard input.
 #![tactic(auto)]
 
 use std::io;

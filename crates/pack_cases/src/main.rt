@@ -1,4 +1,5 @@
 // Packs that are taken and packs that are stopped, run through the console.
+// A program of its own, since a program has one standard input.
 #![tactic(auto)]
 
 use std::io;

@@ -94,7 +94,8 @@ impl<'a, E: Slotted> Agenda<'a, E> {
         Some(first)
     }
 
-    // Puts e in the place of the entry with its index, if there is one and e comes before it; whether it did.
+    // Puts e in the place of the entry with its index, if there is one and e comes before it.
+    // A bool, since it answers a question: whether e came in. Nothing fails.
     pub fn improve(&mut self, e: E) -> bool
         requires { E.index e < room self.old }
         ensures room { room self.new ≡ room self.old }

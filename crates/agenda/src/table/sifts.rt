@@ -24,7 +24,7 @@ impl<'a, E: Slotted> Table<'a, E> {
         put(cells, j, a);
     }
 
-    // Moves the entry at `at` up, until its parent does not come after it.
+    // Moves the entry at `at` up, until its parent does not come after it: from a place to its parent, and no range goes so.
     pub fn sift_up(&mut self, mut at: usize)
         requires { at < self.old.len }
         ensures shuffled { IsPermutation (listed self.old) (listed self.new) }
@@ -37,7 +37,7 @@ impl<'a, E: Slotted> Table<'a, E> {
         }
     }
 
-    // Moves the entry at `at` down, until no child comes before it.
+    // Moves the entry at `at` down, until no child comes before it: from a place to its child, and no range goes so.
     pub fn sift_down(&mut self, mut at: usize)
         ensures shuffled { IsPermutation (listed self.old) (listed self.new) }
         ensures sinks { Down (before E.cmp) (listed self.old) at → Heap (before E.cmp) (listed self.new) }

@@ -7,7 +7,7 @@ use crate::held::Grammar;
 use crate::production::Production;
 
 impl Grammar {
-    // The number of the weight kind.
+    // The number of the weight kind: any byte, as which kinds exist is not the grammar's business, so no enum.
     pub fn kind(&self) -> u8
         ensures { result ≡ (model self.now).kind }
     {

@@ -6,6 +6,7 @@ ghost use Rattle.grammar.specs.Stops.{told};
 use crate::stops::{Layer, PackStop};
 use std::fmt;
 
+// Number and figure are a match of its own in each crate that has stops, since the cases are its own.
 impl PackStop {
     pub fn number(&self) -> u8
         ensures { result ≡ (told self.now).number }

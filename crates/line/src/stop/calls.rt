@@ -6,6 +6,7 @@ use crate::line::LINE_ROOM;
 use crate::stop::LineStop;
 use std::fmt;
 
+// Number and figure are a match of its own in each crate that has stops, since the cases are its own.
 impl LineStop {
     pub fn number(&self) -> u8
         ensures { result ≡ number_of self.now }

@@ -75,6 +75,7 @@ impl<'a> Front<'a> {
         for constituent in constituents {
             let before = tokens.len();
             self.spell(constituent, &mut tokens)?;
+            // It narrows: a stack holds few tokens.
             lengths.push((tokens.len() - before) as u8);
         }
         tokens.try_extend_from_slice(behind)?;

@@ -5,6 +5,7 @@ ghost use Rattle.replay.specs.Stops.{told, what, words_of};
 use crate::stops::ReplayStop;
 use std::fmt;
 
+// Number and figure are a match of its own in each crate that has stops, since the cases are its own.
 impl ReplayStop {
     pub fn number(&self) -> u8
         ensures { result ≡ (told self.now).number }

@@ -53,6 +53,7 @@ impl<J: Joining> Weight for Number<J> {
         if value > u64::from(J::CEILING) {
             return None;
         }
+        // It narrows: the value is not above the ceiling.
         Some(Number::of(value as u32))
     }
 
