@@ -12,6 +12,7 @@ pub fn inside(cells: &mut [Cell<Task>]) -> u64
 {
     let mut a = Agenda::new(cells);
     a.push(Task { cost: 20, node: 3 });
+    // A `match`, since the check finds no proof of a closure's answer here.
     match a.pop() {
         Some(t) => t.cost,
         None => 0,

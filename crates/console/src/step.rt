@@ -133,6 +133,7 @@ pub(crate) fn parse(heap: Global, line: &[u8]) -> Result<Step, ParseError>
     if line.starts_with(b"#") {
         return Ok(Step::Comment);
     }
+    // No `ok_or`, since the other way may fail by itself.
     match parse_word(line) {
         Some(step) => Ok(step),
         None => parse_operands(heap, line),

@@ -42,7 +42,7 @@ fn separator(i: usize, text: &'static str) -> &'static str
     if i == 0 { "" } else { text }
 }
 
-// Appends the entries of a list, one after another.
+// Appends the entries of a list, one after another. Each function that appends says what: that relates two states of the text, so no type can say it.
 fn push_each<T, F>(out: &mut String, entries: &[T], push: F) -> Result<(), AllocError>
 where
     F: Fn(&mut String, usize, &T) -> Result<(), AllocError>,

@@ -1,6 +1,6 @@
 // Packs to weigh, of three categories each.
 
-// Every category has a tree and a chain.
+// Every category has a tree and a chain. Replays are tried with the same pack, in a crate that has it by itself.
 pub const SAMPLE: [u8; 151] = [
     1, 0, 2, 1, 2, 2, 2, 1, 3, 0, 4, 0, 0, 3, 1, 2, 255, 255, 5, 6, 0, 10, 7, 1, 1, 4, 2, 0, 2, 0,
     255, 255, 255, 5, 6, 0, 20, 4, 2, 0, 4, 0, 255, 255, 255, 5, 6, 0, 21, 4, 2, 0, 5, 3, 1, 2, 2,

@@ -103,8 +103,7 @@ pub fn next_command(pack: &[u8]) -> Result<(Command, &[u8]), Unread>
             rest,
         )),
         [0x08, rest @ ..] => Ok((Command::End, rest)),
-        [] => Err(Unread::Incomplete),
-        [0x01..=0x08, ..] => Err(Unread::Incomplete),
+        [] | [0x01..=0x08, ..] => Err(Unread::Incomplete),
         _ => Err(Unread::Unknown),
     }
 }

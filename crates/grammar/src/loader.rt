@@ -15,6 +15,7 @@ use arrayvec::ArrayVec;
 mod calls;
 mod opening;
 
+// Each step is told where its command stands, since the stop that it answers carries that.
 #[derive(Drop)]
 pub(crate) struct Loader {
     // A step may be taken only at its stage, which its clause asks; a type for each stage would hand all other fields from one to the next.

@@ -7,7 +7,7 @@ use arrayvec::ArrayVec;
 
 mod calls;
 
-// How many tokens the stack may hold. Each yield has a token, so it holds no more yields either.
+// How many tokens the stack may hold, which is a rule of its own beside a line's. Each yield has a token, so it holds no more yields either.
 pub(crate) const MOST_TOKENS: usize = 15;
 
 pub(crate) type Tokens = ArrayVec<u16, MOST_TOKENS>;

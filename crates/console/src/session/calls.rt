@@ -22,6 +22,7 @@ impl Session {
         Session {
             grammar: None,
             held: Held::Open(Line::new()),
+            // As many as a phrase has at most; a rule of the console's own.
             room: 15,
         }
     }

@@ -24,6 +24,7 @@ impl PackStop {
         }
     }
 
+    // An arm for each stop, as the table of stops has a row for each.
     pub fn figure(&self) -> usize
         ensures { result ≡ (told self.now).figure }
     {

@@ -22,6 +22,7 @@ impl Stack {
         }
     }
 
+    // That a production has one or two constituents is kept by the grammar that holds it and by no production, so it is asked here and where it is used.
     // The tokens that the stack holds after the production's command, and the lengths of the strings that are then on top.
     fn yielded(&self, production: &Production, at: usize) -> Result<(Tokens, Lengths), ReplayStop>
         requires dimension { OneOrTwo (length (production_model production.now).constituents) }
