@@ -1,5 +1,6 @@
 // Tasks, the cheapest first, and peaks, the highest first.
 ghost use Rattle.std.specs.Prelude.{◌≡◌};
+ghost use Rattle.agenda.specs.Orders.{Ordered};
 ghost use Rattle.agenda_cases.specs.Orders.{cheaper, higher, node_of, place_of, peak, tasks_alike, peaks_alike};
 
 use agenda::Slotted;
@@ -66,3 +67,9 @@ impl Slotted for Peak {
         usize::from(self.place)
     }
 }
+
+// The orders of tasks and of peaks are total.
+pub fn orders_stand()
+    ensures tasks { Ordered cheaper }
+    ensures peaks { Ordered higher }
+{}

@@ -15,7 +15,7 @@ use weight::weight::Weight;
 pub struct AcceptedGrammar<'a, W: Weight> {
     pub grammar: &'a Grammar,
     pub kind: PhantomData<W>,
-    ghost accepted: { Accepted W.Weight.algebra (model grammar.now) },
+    pub ghost accepted: { Accepted W.Weight.algebra (model grammar.now) },
 }
 
 impl<'a, W: Weight> AcceptedGrammar<'a, W> {

@@ -54,6 +54,16 @@ impl<'a, W: Weight> Rules<W> for WeighedGrammar<'a, W> {
         MOST_ARITY * production_count(self.accepted.grammar)
     }
 
+    fn conclusion(&self, k: usize) -> Option<usize> {
+        let grammar = self.accepted.grammar;
+        let production = production_at(grammar, k / MOST_ARITY);
+        let argument = *production.arguments().get(k % MOST_ARITY)?;
+        if argument == grammar.start() {
+            return None;
+        }
+        Some(usize::from(argument))
+    }
+
     fn rule(&self, k: usize) -> Option<Rule<W>> {
         let grammar = self.accepted.grammar;
         let production = production_at(grammar, k / MOST_ARITY);

@@ -1,5 +1,5 @@
 // What a search goes over: rules that give a category from others at a price.
-ghost use Rattle.std.specs.Prelude.{◌≡◌, ℕ, ◌<◌, Some, Option};
+ghost use Rattle.std.specs.Prelude.{◌≡◌, ℕ, ◌<◌, Some, None, Option, MatchOption};
 ghost use Rattle.estimate.specs.declared.rules.Rule.{Rule};
 ghost use Rattle.estimate.specs.Rules.{Inside};
 
@@ -28,6 +28,11 @@ pub trait Rules<W: Weight> {
 
     fn size(&self) -> usize
         ensures { result ≡ count self.now };
+
+    // The item that the rule of a number gives, or nothing where it has none: known at less cost than the rule.
+    fn conclusion(&self, k: usize) -> Option<usize>
+        requires { k < count self.now }
+        ensures { MatchOption result (gives self.now k None) (λ x. (x < items self.now) × ((r : Rule W) → gives self.now k (Some r) → r.result ≡ x)) };
 
     fn rule(&self, k: usize) -> Option<Rule<W>>
         requires { k < count self.now }

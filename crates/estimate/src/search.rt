@@ -1,5 +1,6 @@
 // The lightest cost of each item that rules give, best first.
-ghost use Rattle.std.specs.Prelude.{◌≡◌, ◌<◌, length, replicate, MatchOption, slice_set};
+ghost use Rattle.std.specs.Prelude.{◌≡◌, ◌<◌, false, length, replicate, Some, MatchOption, slice_set};
+ghost use Rattle.estimate.specs.declared.rules.Rule.{Rule};
 ghost use Rattle.agenda.specs.Cells.{blank_cell};
 ghost use Rattle.agenda.specs.Agendas.{room, entries};
 ghost use Rattle.grammar.specs.Formed.{Each};
@@ -50,6 +51,18 @@ fn consider<W: Weight>(rule: &Rule<W>, row: &[W], agenda: &mut Agenda<Entry<W>>)
     }
 }
 
+// Whether the rule of a number may still give something: it concludes an item that is not settled.
+fn is_open<W: Weight, R: Rules<W>>(rules: &R, k: usize, row: &[W]) -> bool
+    requires number { k < R.Rules.count rules.now }
+    requires row { length row.now ≡ R.Rules.items rules.now }
+    ensures { result ≡ false → (r : Rule W) → R.Rules.gives rules.now k (Some r) → Open W.Weight.algebra W.Weight.exact W.Weight.nothing row.now r.result → ⊥ }
+{
+    match rules.conclusion(k) {
+        Some(x) => settled(row, x).is_none(),
+        None => false,
+    }
+}
+
 // Offers what each rule gives. A rule that was offered before is looked at again, but what it gives does not come before what waits, so that the agenda is written at most once for a rule.
 fn offer_all<W: Weight, R: Rules<W>>(rules: &R, row: &[W], agenda: &mut Agenda<Entry<W>>)
     requires row { length row.now ≡ R.Rules.items rules.now }
@@ -57,8 +70,11 @@ fn offer_all<W: Weight, R: Rules<W>>(rules: &R, row: &[W], agenda: &mut Agenda<E
     ensures room { room agenda.new ≡ room agenda.old }
     ensures offered { AllOffered W.Weight.algebra W.Weight.exact W.Weight.nothing (R.Rules.count rules.now) (R.Rules.gives rules.now) row.now (entries agenda.old) (R.Rules.count rules.now) (entries agenda.new) }
 {
-    // A number names a rule, and indexes nothing here.
+    // A number names a rule, and indexes nothing here. A rule is made only where it may give something.
     for k in 0..rules.size() {
+        if !is_open(rules, k, row) {
+            continue;
+        }
         if let Some(rule) = rules.rule(k) {
             consider(&rule, row, agenda);
         }

@@ -48,6 +48,10 @@ impl<'a, W: Weight> Rules<W> for AcceptedGrammar<'a, W> {
         production_count(self.grammar)
     }
 
+    fn conclusion(&self, k: usize) -> Option<usize> {
+        Some(usize::from(production_at(self.grammar, k).category()))
+    }
+
     fn rule(&self, k: usize) -> Option<Rule<W>> {
         let production = production_at(self.grammar, k);
         Some(Rule {

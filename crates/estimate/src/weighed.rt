@@ -11,8 +11,8 @@ use weight::weight::Weight;
 pub struct WeighedGrammar<'a, W: Weight> {
     pub accepted: AcceptedGrammar<'a, W>,
     pub low: &'a [W],
-    ghost long: { categories (model accepted.grammar.now) ≤ length low.now },
-    ghost lightest: { ∥ LightestRow W.Weight.algebra W.Weight.exact (model accepted.grammar.now) low.now ∥₁ },
+    pub ghost long: { categories (model accepted.grammar.now) ≤ length low.now },
+    pub ghost lightest: { ∥ LightestRow W.Weight.algebra W.Weight.exact (model accepted.grammar.now) low.now ∥₁ },
 }
 
 impl<'a, W: Weight> WeighedGrammar<'a, W> {

@@ -1,8 +1,10 @@
-use Rattle.std.proofs.Common.{◌+◌, ◌<◌, List, sym, ap, refl, ◌∙◌, subst, arith}
+use Rattle.std.proofs.Common.{ℕ, rules, ◌+◌, ◌<◌, List, sym, ap, refl, ◌∙◌, subst, arith}
 use Rattle.agenda.specs.Agendas.{room, entries}
 use Rattle.estimate.specs.declared.entry.Entry.{Entry}
 use Rattle.estimate.specs.Searches.{AllOffered}
-use Rattle.estimate.proofs.Searching.{considered, consider_none}
+use Rattle.grammar.specs.Formed.{Each}
+use Rattle.estimate.specs.Rules.{premises_of}
+use Rattle.estimate.proofs.Searching.{considered, consider_none, consider_settled}
 use Rattle.estimate.proofs.search.offer_all.Goals as goal
 use Rattle.estimate.proofs.search.offer_all.Goals.{in-Some, in_default}
 
@@ -42,3 +44,20 @@ pub returns-clause-offered : goal.returns-clause-offered
 returns-clause-offered g c = λ h.
     let all = c.loop-k.invariant.1 h in
     (all.0, λ r below. all.1 r (omega (arith, c.size-k-end.ensures, c.loop-k-test.false)))
+
+pub loop-k-preserved-then-not-is_open : goal.loop-k-preserved-then-not-is_open
+loop-k-preserved-then-not-is_open g c =
+    let rules_now = c.args.rules.now in
+    let inv = c.loop-k.invariant in
+    let held = entries c.loop-k.agenda in (
+      inv.0,
+      λ h.
+          let so_far = inv.1 h in
+          consider_settled g.met.W.Weight.lawful g.W.Weight.exact g.W.Weight.nothing (g.R.Rules.count rules_now) (g.R.Rules.gives rules_now) (g.met.R.Rules.one rules_now) c.args.row.now held held c.loop-k.k so_far.0 so_far.1 (c.is_open.ensures (search rules)) refl,
+    )
+
+pub consider-requires-clause-premises : goal.consider-requires-clause-premises
+consider-requires-clause-premises g c =
+    let within : c.loop-k.k < g.R.Rules.count c.args.rules.now = omega (arith, c.size-k-end.ensures) in
+    let inside = g.met.R.Rules.inside c.args.rules.now c.loop-k.k c.in-Some.rule within c.in-Some.ensures in
+    subst (λ (n : ℕ). Each (λ p. p < n) (premises_of c.in-Some.rule.premises)) (sym c.requires.row) inside.premises
