@@ -10,7 +10,7 @@ use Rattle.agenda.proofs.table.Table.push.Goals as goal
 pub put-requires : goal.put-requires
 put-requires g c =
     let t = c.args.self.now in
-    (room_for g.E.Slotted.index c.args.e t.cells.now t.len t.within t.placed c.requires.within c.requires.absent, c.requires.within)
+    (omega (arith, room_for g.E.Slotted.index c.args.e t.cells.now t.len t.within t.placed c.requires.within c.requires.absent), c.requires.within)
 
 pub invariant_of-self : goal.invariant_of-self
 invariant_of-self g c =
