@@ -99,15 +99,15 @@ module _ {A : Algebra} (laws : Lawful A) {W : Type 0} (exact : W → A.Exact) (n
               ],
         )
 
-    -- no rule is made where its conclusion is settled
-    pub consider_settled : ((r : Rule W) → gives k (Some r) → Open A exact nothing row r.result → ⊥) → ys ≡ xs → Next
-    consider_settled shut same =
+    -- no rule is made where its conclusion is settled, or a premise is not
+    pub consider_idle : ((r : Rule W) → gives k (Some r) → AllSettled A exact nothing row (premises_of r.premises) → Open A exact nothing row r.result → ⊥) → ys ≡ xs → Next
+    consider_idle shut same =
         let S : List (Entry W) → Type 0 = λ es. Searching A exact nothing D row es × Closed A exact nothing n gives (k + 1) row es in
         subst S (sym same) (
           s,
           λ r below all free fits.
               elim (ℕ_discrete r.0 k) [
-                | yes p ↦ absurd (shut r.1 (subst (λ (j : ℕ). gives j (Some r.1)) p r.3) free)
+                | yes p ↦ absurd (shut r.1 (subst (λ (j : ℕ). gives j (Some r.1)) p r.3) all free)
                 | no ne ↦ c r (omega arith) all free fits
               ],
         )

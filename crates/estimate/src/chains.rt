@@ -10,7 +10,7 @@ ghost use Rattle.estimate.specs.ChainSteps.{chain_one, chain_inside};
 
 use crate::productions::{production_at, production_count};
 use crate::rules::{Rule, Rules};
-use crate::search::weigh;
+use crate::search::{settled, weigh};
 use crate::trees::premises;
 use crate::weighed::WeighedGrammar;
 use arrayvec::ArrayVec;
@@ -54,14 +54,17 @@ impl<'a, W: Weight> Rules<W> for WeighedGrammar<'a, W> {
         MOST_ARITY * production_count(self.accepted.grammar)
     }
 
-    fn conclusion(&self, k: usize) -> Option<usize> {
+    fn is_ready(&self, k: usize, row: &[W]) -> bool {
         let grammar = self.accepted.grammar;
         let production = production_at(grammar, k / MOST_ARITY);
-        let argument = *production.arguments().get(k % MOST_ARITY)?;
-        if argument == grammar.start() {
-            return None;
+        let Some(argument) = production.arguments().get(k % MOST_ARITY) else {
+            return false;
+        };
+        if settled(row, usize::from(*argument)).is_some() {
+            return false;
         }
-        Some(usize::from(argument))
+        let from = usize::from(production.category());
+        from == usize::from(grammar.start()) || settled(row, from).is_some()
     }
 
     fn rule(&self, k: usize) -> Option<Rule<W>> {

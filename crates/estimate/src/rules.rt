@@ -1,7 +1,8 @@
 // What a search goes over: rules that give a category from others at a price.
-ghost use Rattle.std.specs.Prelude.{◌≡◌, ℕ, ◌<◌, Some, None, Option, MatchOption};
+ghost use Rattle.std.specs.Prelude.{◌≡◌, ℕ, ◌<◌, false, length, Some, Option};
 ghost use Rattle.estimate.specs.declared.rules.Rule.{Rule};
-ghost use Rattle.estimate.specs.Rules.{Inside};
+ghost use Rattle.estimate.specs.Rules.{Inside, premises_of};
+ghost use Rattle.estimate.specs.Searches.{AllSettled, Open};
 
 use arrayvec::ArrayVec;
 use grammar::MOST_ARITY;
@@ -29,10 +30,12 @@ pub trait Rules<W: Weight> {
     fn size(&self) -> usize
         ensures { result ≡ count self.now };
 
-    // The item that the rule of a number gives, or nothing where it has none: known at less cost than the rule.
-    fn conclusion(&self, k: usize) -> Option<usize>
-        requires { k < count self.now }
-        ensures { MatchOption result (gives self.now k None) (λ x. (x < items self.now) × ((r : Rule W) → gives self.now k (Some r) → r.result ≡ x)) };
+    // Whether the rule of a number may give something by a row: false only where it concludes what is settled, or from what is not. It is asked before the rule is made, which costs more.
+    fn is_ready(&self, k: usize, row: &[W]) -> bool
+        requires number { k < count self.now }
+        requires row { length row.now ≡ items self.now }
+        ensures { result ≡ false → (r : Rule W) → gives self.now k (Some r) → AllSettled W.Weight.algebra W.Weight.exact W.Weight.nothing row.now (premises_of r.premises)
+            → Open W.Weight.algebra W.Weight.exact W.Weight.nothing row.now r.result → ⊥ };
 
     fn rule(&self, k: usize) -> Option<Rule<W>>
         requires { k < count self.now }

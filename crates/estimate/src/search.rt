@@ -1,12 +1,11 @@
 // The lightest cost of each item that rules give, best first.
-ghost use Rattle.std.specs.Prelude.{◌≡◌, ◌<◌, false, length, replicate, Some, MatchOption, slice_set};
-ghost use Rattle.estimate.specs.declared.rules.Rule.{Rule};
+ghost use Rattle.std.specs.Prelude.{◌≡◌, ◌<◌, false, length, replicate, MatchOption, slice_set};
 ghost use Rattle.agenda.specs.Cells.{blank_cell};
 ghost use Rattle.agenda.specs.Agendas.{room, entries};
 ghost use Rattle.grammar.specs.Formed.{Each};
 ghost use Rattle.estimate.specs.Entries.{blank_entry};
 ghost use Rattle.estimate.specs.Rules.{premises_of, system};
-ghost use Rattle.estimate.specs.Searches.{at, Open, Weighed, Searching, Closed, Solved, Considered, AllOffered};
+ghost use Rattle.estimate.specs.Searches.{at, AllSettled, Open, Weighed, Searching, Closed, Solved, Considered, AllOffered};
 
 use crate::entry::Entry;
 use crate::rules::{Rule, Rules};
@@ -20,6 +19,19 @@ pub fn settled<W: Weight>(row: &[W], x: usize) -> Option<W>
 {
     let w = row[x];
     (w != W::none()).then_some(w)
+}
+
+// Whether all of these items are settled. A loop and no `all`, since a closure would have to ask of each item that it is one of the row's.
+pub fn all_settled<W: Weight>(row: &[W], items: &[u8]) -> bool
+    requires { Each (λ x. x < length row.now) items.now }
+    ensures { result ≡ false → AllSettled W.Weight.algebra W.Weight.exact W.Weight.nothing row.now items.now → ⊥ }
+{
+    for x in items {
+        if settled(row, usize::from(*x)).is_none() {
+            return false;
+        }
+    }
+    true
 }
 
 // What the rule gives, where its premises are settled.
@@ -51,18 +63,6 @@ fn consider<W: Weight>(rule: &Rule<W>, row: &[W], agenda: &mut Agenda<Entry<W>>)
     }
 }
 
-// Whether the rule of a number may still give something: it concludes an item that is not settled.
-fn is_open<W: Weight, R: Rules<W>>(rules: &R, k: usize, row: &[W]) -> bool
-    requires number { k < R.Rules.count rules.now }
-    requires row { length row.now ≡ R.Rules.items rules.now }
-    ensures { result ≡ false → (r : Rule W) → R.Rules.gives rules.now k (Some r) → Open W.Weight.algebra W.Weight.exact W.Weight.nothing row.now r.result → ⊥ }
-{
-    match rules.conclusion(k) {
-        Some(x) => settled(row, x).is_none(),
-        None => false,
-    }
-}
-
 // Offers what each rule gives. A rule that was offered before is looked at again, but what it gives does not come before what waits, so that the agenda is written at most once for a rule.
 fn offer_all<W: Weight, R: Rules<W>>(rules: &R, row: &[W], agenda: &mut Agenda<Entry<W>>)
     requires row { length row.now ≡ R.Rules.items rules.now }
@@ -72,7 +72,7 @@ fn offer_all<W: Weight, R: Rules<W>>(rules: &R, row: &[W], agenda: &mut Agenda<E
 {
     // A number names a rule, and indexes nothing here. A rule is made only where it may give something.
     for k in 0..rules.size() {
-        if !is_open(rules, k, row) {
+        if !rules.is_ready(k, row) {
             continue;
         }
         if let Some(rule) = rules.rule(k) {

@@ -14,7 +14,7 @@ use crate::entry::Entry;
 use crate::productions::{production_at, production_count};
 use crate::rows::blank_row;
 use crate::rules::{Rule, Rules};
-use crate::search::search;
+use crate::search::{all_settled, search, settled};
 use agenda::Cell;
 use arrayvec::ArrayVec;
 use grammar::MOST_ARITY;
@@ -48,8 +48,12 @@ impl<'a, W: Weight> Rules<W> for AcceptedGrammar<'a, W> {
         production_count(self.grammar)
     }
 
-    fn conclusion(&self, k: usize) -> Option<usize> {
-        Some(usize::from(production_at(self.grammar, k).category()))
+    fn is_ready(&self, k: usize, row: &[W]) -> bool {
+        let production = production_at(self.grammar, k);
+        if settled(row, usize::from(production.category())).is_some() {
+            return false;
+        }
+        all_settled(row, production.arguments())
     }
 
     fn rule(&self, k: usize) -> Option<Rule<W>> {

@@ -4,7 +4,7 @@ use Rattle.estimate.specs.declared.entry.Entry.{Entry}
 use Rattle.estimate.specs.Searches.{AllOffered}
 use Rattle.grammar.specs.Formed.{Each}
 use Rattle.estimate.specs.Rules.{premises_of}
-use Rattle.estimate.proofs.Searching.{considered, consider_none, consider_settled}
+use Rattle.estimate.proofs.Searching.{considered, consider_none, consider_idle}
 use Rattle.estimate.proofs.search.offer_all.Goals as goal
 use Rattle.estimate.proofs.search.offer_all.Goals.{in-Some, in_default}
 
@@ -45,15 +45,15 @@ returns-clause-offered g c = λ h.
     let all = c.loop-k.invariant.1 h in
     (all.0, λ r below. all.1 r (omega (arith, c.size-k-end.ensures, c.loop-k-test.false)))
 
-pub loop-k-preserved-then-not-is_open : goal.loop-k-preserved-then-not-is_open
-loop-k-preserved-then-not-is_open g c =
+pub loop-k-preserved-then-not-is_ready : goal.loop-k-preserved-then-not-is_ready
+loop-k-preserved-then-not-is_ready g c =
     let rules_now = c.args.rules.now in
     let inv = c.loop-k.invariant in
     let held = entries c.loop-k.agenda in (
       inv.0,
       λ h.
           let so_far = inv.1 h in
-          consider_settled g.met.W.Weight.lawful g.W.Weight.exact g.W.Weight.nothing (g.R.Rules.count rules_now) (g.R.Rules.gives rules_now) (g.met.R.Rules.one rules_now) c.args.row.now held held c.loop-k.k so_far.0 so_far.1 (c.is_open.ensures (search rules)) refl,
+          consider_idle g.met.W.Weight.lawful g.W.Weight.exact g.W.Weight.nothing (g.R.Rules.count rules_now) (g.R.Rules.gives rules_now) (g.met.R.Rules.one rules_now) c.args.row.now held held c.loop-k.k so_far.0 so_far.1 (c.is_ready.ensures (search rules)) refl,
     )
 
 pub consider-requires-clause-premises : goal.consider-requires-clause-premises
