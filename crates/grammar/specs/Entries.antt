@@ -1,7 +1,7 @@
--- What a list of the held grammar holds. Assumes nothing.
---   entries r   the entries of the list r, first to last
-use Rattle.std.specs.Prelude.{List}
-use Rattle.arrayvec.specs.ArrayVec.{ArrayVec}
+-- What a row of the held grammar holds. Assumes nothing.
+--   entries r   the entries of the row r, first to last
+use Rattle.std.specs.Prelude.{ℕ, List, take}
+use Rattle.grammar.specs.declared.row.Row.{Row}
 
-abbrev pub entries : {T : Type 0} → ArrayVec T → List T
-entries r = r.items
+abbrev pub entries : {T : Type 0} {n : ℕ} → Row T n → List T
+entries r = take r.count r.cells

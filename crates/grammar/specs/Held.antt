@@ -18,7 +18,7 @@ production_model p = record {
 abbrev pub held_model : ℕ → ArrayVec ℕ → ℕ → ArrayVec Production → GrammarModel
 held_model kind dimensions start productions = record {
   kind = kind;
-  dimensions = entries dimensions;
+  dimensions = dimensions.items;
   start = start;
-  productions = map production_model (entries productions);
+  productions = map production_model productions.items;
 }

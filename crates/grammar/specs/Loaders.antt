@@ -8,7 +8,6 @@ use Rattle.grammar.specs.Stops.{PackStop, told}
 use Rattle.grammar.specs.Commands.{Command, Operands, closes}
 use Rattle.grammar.specs.Grammars.{Symbol, ProductionModel, no_production}
 use Rattle.grammar.specs.Drafts.{Stage, Fresh, Categories, Between, Head, Body, Opened, Draft}
-use Rattle.grammar.specs.Entries.{entries}
 use Rattle.grammar.specs.Held.{production_model}
 use Rattle.grammar.specs.Lists.{all_but_last, last_or}
 use Rattle.grammar.specs.Loads.{step}
@@ -43,10 +42,10 @@ closed_ones Body ps = all_but_last ps
 abbrev pub draft_of : Loader → Draft
 draft_of l = record {
   kind = l.kind;
-  dimensions = entries l.dimensions;
+  dimensions = l.dimensions.items;
   start = l.start;
-  productions = closed_ones l.stage (map production_model (entries l.productions));
-  opened = opened_of l.offset (last_or no_production (map production_model (entries l.productions)));
+  productions = closed_ones l.stage (map production_model l.productions.items);
+  opened = opened_of l.offset (last_or no_production (map production_model l.productions.items));
 }
 
 abbrev pub Stepped : ℕ → Loader → Command → Result (Unit {0}) PackStop → Loader → Type 0

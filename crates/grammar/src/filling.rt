@@ -13,7 +13,7 @@ pub(crate) fn each_has_some(constituents: &[Constituent]) -> bool
 {
     constituents
         .iter()
-        .all(|constituent| !constituent.is_empty())
+        .all(|constituent| !constituent.items().is_empty())
 }
 
 // By hand and not by `==`, since k and l are counts and a part's numbers are bytes.
@@ -40,7 +40,7 @@ fn names(constituents: &[Constituent], k: usize, l: usize) -> bool
 {
     constituents
         .iter()
-        .any(|constituent| some_part(constituent, k, l))
+        .any(|constituent| some_part(constituent.items(), k, l))
 }
 
 // Constituents 1 to `dimension` of argument k are named.

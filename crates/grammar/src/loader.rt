@@ -1,7 +1,6 @@
 // What a load has read so far.
 ghost use Rattle.std.specs.Prelude.{◌≡◌, ℕ, ◌<◌, ◌≤◌, true, map, length, slice_index};
 ghost use Rattle.grammar.specs.Checks.{has_some, in_constituent, is_open};
-ghost use Rattle.grammar.specs.Entries.{entries};
 ghost use Rattle.grammar.specs.Grammars.{no_production};
 ghost use Rattle.grammar.specs.Held.{production_model};
 ghost use Rattle.grammar.specs.Limits.{most_dimension};
@@ -27,7 +26,7 @@ pub(crate) struct Loader {
     productions: ArrayVec<Production, MOST_PRODUCTIONS>,
     // Where the command of the last one stands, 0 where there is none, as the definition has it.
     offset: usize,
-    ghost low: { (c : ℕ) → slice_index (entries dimensions) c ≤ most_dimension },
-    ghost some: { is_open stage ≡ true → 1 ≤ length (entries productions) },
-    ghost body: { is_open stage ≡ true → has_some (last_or no_production (map production_model (entries productions))).constituents ≡ in_constituent stage },
+    ghost low: { (c : ℕ) → slice_index dimensions.items c ≤ most_dimension },
+    ghost some: { is_open stage ≡ true → 1 ≤ length productions.items },
+    ghost body: { is_open stage ≡ true → has_some (last_or no_production (map production_model productions.items)).constituents ≡ in_constituent stage },
 }

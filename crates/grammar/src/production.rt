@@ -1,18 +1,18 @@
 // A production as it is held.
 use crate::limits::{MOST_ARITY, MOST_DIMENSION, MOST_SYMBOLS};
+use crate::row::Row;
 use crate::symbol::Symbol;
-use arrayvec::ArrayVec;
 
 mod calls;
 
 // The symbols of a constituent.
-pub type Constituent = ArrayVec<Symbol, MOST_SYMBOLS>;
+pub type Constituent = Row<Symbol, MOST_SYMBOLS>;
 
-// What Default makes fills the unused places of a list. A production is moved, or cloned where two are wanted.
-#[derive(Clone, Default, Drop)]
+// What Default makes fills the unused places of a list.
+#[derive(Clone, Copy, Default)]
 pub struct Production {
     pub(crate) category: u8,
     pub(crate) weight: u16,
-    pub(crate) arguments: ArrayVec<u8, MOST_ARITY>,
-    pub(crate) constituents: ArrayVec<Constituent, MOST_DIMENSION>,
+    pub(crate) arguments: Row<u8, MOST_ARITY>,
+    pub(crate) constituents: Row<Constituent, MOST_DIMENSION>,
 }

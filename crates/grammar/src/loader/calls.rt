@@ -16,7 +16,7 @@ ghost use Rattle.grammar.specs.Tested.{formed};
 use crate::command::{Command, Operands};
 use crate::filling::{dimension_of, each_has_some, names_each};
 use crate::held::Grammar;
-use crate::limits::MOST_DIMENSION;
+use crate::limits::{MOST_DIMENSION, MOST_SYMBOLS};
 use crate::loader::Loader;
 use crate::production::{Constituent, Production};
 use crate::stage::Stage;
@@ -42,7 +42,7 @@ impl Loader {
     // The production that is open.
     fn opened(&self) -> &Production
         requires { is_open self.now.stage ≡ true }
-        ensures { production_model result.now ≡ last_or no_production (map production_model (entries self.now.productions)) }
+        ensures { production_model result.now ≡ last_or no_production (map production_model self.now.productions.items) }
     {
         &self.productions[self.productions.len() - 1]
     }
@@ -174,7 +174,7 @@ impl Loader {
         if self.opened().constituents().len() >= usize::from(self.open_dimension()) {
             return Err(PackStop::TooMany { at });
         }
-        if self.current().is_empty() {
+        if self.current().items().is_empty() {
             return Err(PackStop::Misplaced { at });
         }
         let last = self.productions.len() - 1;
@@ -197,7 +197,7 @@ impl Loader {
         requires { self.old.stage ≡ Body }
         ensures { Stepped at self.old (Token token) result self.new }
     {
-        if self.current().is_full() {
+        if self.current().len() >= MOST_SYMBOLS {
             return Err(PackStop::TooMany { at });
         }
         self.add_symbol(Symbol::Token(token));
@@ -208,7 +208,7 @@ impl Loader {
         requires { self.old.stage ≡ Body }
         ensures { Stepped at self.old (Part argument constituent) result self.new }
     {
-        if self.current().is_full() {
+        if self.current().len() >= MOST_SYMBOLS {
             return Err(PackStop::TooMany { at });
         }
         let dimensions = self.dimensions.as_slice();

@@ -11,8 +11,8 @@ use crate::command::Operands;
 use crate::filling::dimension_of;
 use crate::limits::{MOST_ARITY, UNUSED};
 use crate::production::{Constituent, Production};
+use crate::row::Row;
 use crate::symbol::Symbol;
-use arrayvec::ArrayVec;
 
 // Argument number i, from 0, is a known category, or UNUSED where the arity leaves it so.
 fn argument_fits(known: usize, arity: u8, i: u8, argument: u8) -> bool
@@ -39,12 +39,13 @@ impl Operands {
     }
 
     // The arguments that count.
-    fn arguments(&self) -> ArrayVec<u8, MOST_ARITY>
+    fn arguments(&self) -> Row<u8, MOST_ARITY>
         ensures { entries result ≡ take self.now.arity (self.now.first ∷ self.now.second ∷ self.now.third ∷ []) }
     {
-        let mut arguments = ArrayVec::from([self.first, self.second, self.third]);
-        arguments.truncate(usize::from(self.arity));
-        arguments
+        Row::front(
+            [self.first, self.second, self.third],
+            usize::from(self.arity),
+        )
     }
 }
 
@@ -57,7 +58,7 @@ impl Production {
             category: operands.category,
             weight: operands.weight,
             arguments: operands.arguments(),
-            constituents: ArrayVec::new(),
+            constituents: Row::default(),
         }
     }
 
@@ -66,7 +67,7 @@ impl Production {
         requires { length (entries self.old.constituents) < most_dimension }
         ensures { production_model self.new ≡ with_constituents (production_model self.old) ((production_model self.old).constituents ++ [] ∷ []) }
     {
-        self.constituents.push(Constituent::new());
+        self.constituents.push(Constituent::default());
     }
 
     // Adds a symbol to its last constituent.
@@ -77,7 +78,9 @@ impl Production {
             (all_but_last (production_model self.old).constituents ++ (last_or [] (production_model self.old).constituents ++ symbol ∷ []) ∷ []) }
     {
         let last = self.constituents.len() - 1;
-        self.constituents[last].push(symbol);
+        let mut symbols = self.constituents.items()[last];
+        symbols.push(symbol);
+        self.constituents.set(last, symbols);
     }
 
     // The operands of a PART.
@@ -87,7 +90,7 @@ impl Production {
         if argument == 0 || constituent == 0 {
             return false;
         }
-        match self.arguments.get(usize::from(argument) - 1) {
+        match self.arguments.items().get(usize::from(argument) - 1) {
             Some(&category) => constituent <= dimension_of(dimensions, category),
             None => false,
         }

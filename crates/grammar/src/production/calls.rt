@@ -22,13 +22,13 @@ impl Production {
     pub fn arguments(&self) -> &[u8]
         ensures { result.now ≡ (production_model self.now).arguments }
     {
-        self.arguments.as_slice()
+        self.arguments.items()
     }
 
     // The symbols of each constituent.
     pub fn constituents(&self) -> &[Constituent]
         ensures { map entries result.now ≡ (production_model self.now).constituents }
     {
-        self.constituents.as_slice()
+        self.constituents.items()
     }
 }

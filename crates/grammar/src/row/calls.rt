@@ -1,0 +1,59 @@
+// What a row holds, and the writes to it.
+ghost use Rattle.std.specs.Prelude.{◌≡◌, ◌<◌, [], ◌∷◌, ◌++◌, length, take, slice_set};
+ghost use Rattle.grammar.specs.Entries.{entries};
+
+use crate::row::Row;
+
+// No entry; the array is filled with a value that is never read.
+impl<T: Copy + Default, const N: usize> Default for Row<T, N> {
+    ghost is_default = { λ r. entries r ≡ [] };
+
+    fn default() -> Row<T, N> {
+        Row {
+            cells: [T::default(); N],
+            count: 0,
+        }
+    }
+}
+
+impl<T: Copy, const N: usize> Row<T, N> {
+    // The first entries of a full array.
+    pub(crate) fn front(cells: [T; N], count: usize) -> Row<T, N>
+        ensures { entries result ≡ take count cells }
+    {
+        Row {
+            cells,
+            count: count.min(N),
+        }
+    }
+
+    pub(crate) fn push(&mut self, x: T)
+        requires { length (entries self.old) < N }
+        ensures { entries self.new ≡ entries self.old ++ x ∷ [] }
+    {
+        self.cells[self.count] = x;
+        self.count += 1;
+    }
+
+    // Writes x over entry i.
+    pub(crate) fn set(&mut self, i: usize, x: T)
+        requires { i < length (entries self.old) }
+        ensures { entries self.new ≡ slice_set (entries self.old) i x }
+    {
+        self.cells[i] = x;
+    }
+
+    pub fn len(&self) -> usize
+        ensures value { result ≡ length (entries self.now) }
+        ensures count { result ≡ self.now.count }
+    {
+        self.items().len()
+    }
+
+    pub fn items(&self) -> &[T]
+        ensures { result.now ≡ entries self.now }
+    {
+        let all = &self.cells[..];
+        &all[0..self.count]
+    }
+}
