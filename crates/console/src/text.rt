@@ -66,7 +66,7 @@ fn push_constituent(out: &mut String, i: usize, constituent: &Constituent) -> Re
     ensures { OnOk result (string_bytes out.new ≡ string_bytes out.old ++ constituent_text i (entries constituent.now)) }
 {
     out.push_str(separator(i, " /"))?;
-    push_each(out, constituent, push_symbol)
+    push_each(out, constituent.items(), push_symbol)
 }
 
 // A space stands between two arguments.

@@ -74,7 +74,7 @@ impl<'a> Front<'a> {
         let mut lengths = Lengths::new();
         for constituent in constituents {
             let before = tokens.len();
-            self.spell(constituent, &mut tokens)?;
+            self.spell(constituent.items(), &mut tokens)?;
             // It narrows: a stack holds few tokens.
             lengths.push((tokens.len() - before) as u8);
         }
