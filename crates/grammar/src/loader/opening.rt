@@ -78,9 +78,7 @@ impl Production {
             (all_but_last (production_model self.old).constituents ++ (last_or [] (production_model self.old).constituents ++ symbol ∷ []) ∷ []) }
     {
         let last = self.constituents.len() - 1;
-        let mut symbols = self.constituents.items()[last];
-        symbols.push(symbol);
-        self.constituents.set(last, symbols);
+        self.constituents.push_at(last, symbol);
     }
 
     // The operands of a PART.

@@ -1,5 +1,5 @@
 // What a row holds, and the writes to it.
-ghost use Rattle.std.specs.Prelude.{◌≡◌, ◌<◌, [], ◌∷◌, ◌++◌, length, take, slice_set};
+ghost use Rattle.std.specs.Prelude.{◌≡◌, ◌<◌, [], ◌∷◌, ◌++◌, length, map, take, slice_index_or, slice_set};
 ghost use Rattle.grammar.specs.Entries.{entries};
 
 use crate::row::Row;
@@ -35,14 +35,6 @@ impl<T: Copy, const N: usize> Row<T, N> {
         self.count += 1;
     }
 
-    // Writes x over entry i.
-    pub(crate) fn set(&mut self, i: usize, x: T)
-        requires { i < length (entries self.old) }
-        ensures { entries self.new ≡ slice_set (entries self.old) i x }
-    {
-        self.cells[i] = x;
-    }
-
     pub fn len(&self) -> usize
         ensures value { result ≡ length (entries self.now) }
         ensures count { result ≡ self.now.count }
@@ -55,5 +47,16 @@ impl<T: Copy, const N: usize> Row<T, N> {
     {
         let all = &self.cells[..];
         &all[0..self.count]
+    }
+}
+
+impl<T: Copy, const M: usize, const N: usize> Row<Row<T, M>, N> {
+    // Adds x to the row at i, where it lies.
+    pub(crate) fn push_at(&mut self, i: usize, x: T)
+        requires inside { i < length (entries self.old) }
+        requires room { length (slice_index_or (map entries (entries self.old)) i []) < M }
+        ensures { map entries (entries self.new) ≡ slice_set (map entries (entries self.old)) i (slice_index_or (map entries (entries self.old)) i [] ++ x ∷ []) }
+    {
+        self.cells[i].push(x);
     }
 }
