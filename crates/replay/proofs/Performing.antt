@@ -1,33 +1,26 @@
 -- One command on a stack whose tokens lie end to end.
-use Rattle.std.proofs.Common.{◌≡◌, ℕ, ◌+◌, ◌-◌, ◌<◌, ◌≤◌, true, false, ◌&&◌, eqb, List, [], ◌∷◌, map, length, take, drop, sum, refl, Ok, Err, sym, ap, ◌∙◌, ap₂, arith, slice_range, length-drop}
-use Rattle.std.proofs.lemmas.List.{take_rest}
-use Rattle.std.proofs.lemmas.List.Sums.{sum_by-take-drop}
+use Rattle.std.proofs.Common.{◌≡◌, ℕ, ◌+◌, ◌<◌, ◌≤◌, true, false, List, [], ◌∷◌, map, length, take, drop, Some, None, Ok, Err, sym, ap, ◌∙◌, subst, ap₂, arith, length-drop}
 use Rattle.grammar.specs.declared.symbol.Symbol.{Symbol}
 use Rattle.grammar.specs.Grammars.{ProductionModel}
 use Rattle.grammar.specs.Trees.{spell, tokens_in}
+use Rattle.replay.specs.declared.pile.Pile.{Pile}
 use Rattle.replay.specs.Stops.{stop_at}
-use Rattle.replay.specs.Replays.{Yield, Yields, most_tokens, fit, put, categories_on, strings_on, tokens_on, perform}
-use Rattle.replay.specs.Shapes.{Shape, size, total, cut, laid_out, Put}
-use Rattle.replay.specs.declared.stack.Stack.{Stack}
+use Rattle.replay.specs.Replays.{Yields, most_tokens, fit, put, categories_on, strings_on, tokens_on, perform}
+use Rattle.replay.specs.Piles.{items}
+use Rattle.replay.specs.Shapes.{Lengths, Shape, size, total, laid_out, Laid, StringsPut}
 use Rattle.replay.specs.Stacks.{NoneEmpty}
-use Rattle.replay.proofs.Laid.{categories, categories_laid, length_laid, take_laid, drop_laid, tokens_laid, put_cut, put_size, put_behind, put_longer}
+use Rattle.replay.proofs.Laid.{categories, categories_laid, length_laid, take_laid, drop_laid, tokens_laid, total_front, cut_tokens}
 use Rattle.replay.proofs.Tested.{perform_few, perform_other, perform_long, perform_put}
 
+pub pile_most : {T : Type 0} {n : ℕ} (p : Pile T n) → length (items p) ≤ n
+pile_most p = omega (arith, length-drop p.top p.cells, p.long, p.most)
+
 -- no more yields than tokens
-few_yields : (stack : Yields) → NoneEmpty stack → length stack ≤ tokens_on stack
+pub few_yields : (stack : Yields) → NoneEmpty stack → length stack ≤ tokens_on stack
 few_yields [] h = omega arith
 few_yields (y ∷ ys) h = omega (arith, h.0, few_yields ys h.1)
 
-module _ (r : ProductionModel) (at : ℕ) (s : Stack) where
-  abbrev ss : List Shape
-  ss = s.shapes.items
-
-  abbrev ts : List ℕ
-  ts = s.tokens.items
-
-  whole : total ss ≡ length ts
-  whole = s.laid
-
+module _ (r : ProductionModel) (at : ℕ) (ss : List Shape) (ts : List ℕ) (whole : total ss ≡ length ts) where
   abbrev n : ℕ
   n = length r.arguments
 
@@ -35,11 +28,11 @@ module _ (r : ProductionModel) (at : ℕ) (s : Stack) where
   stack = laid_out ss ts
 
   -- the tokens behind those of the arguments
-  abbrev behind : List ℕ
+  abbrev pub behind : List ℕ
   behind = drop (total (take n ss)) ts
 
   behind_long : total (drop n ss) ≡ length behind
-  behind_long = omega (arith, length-drop (total (take n ss)) ts, sum_by-take-drop size ss n, whole)
+  behind_long = omega (arith, length-drop (total (take n ss)) ts, total_front ss n, whole)
 
   put_tokens : tokens_on (put r stack) ≡ tokens_in (map (spell (strings_on (take n stack))) r.constituents) + length behind
   put_tokens =
@@ -50,62 +43,69 @@ module _ (r : ProductionModel) (at : ℕ) (s : Stack) where
         behind_long,
       )
 
-  pub too_few : length ss < n → perform r at stack ≡ Err (stop_at 14 at)
-  too_few h = perform_few r at stack (omega (arith, length_laid ss ts))
+  -- what the code holds for these
+  module _ (arguments : List ℕ) (shapes : List Shape) (a-is : arguments ≡ r.arguments) (s-is : shapes ≡ ss) where
+    pub too_few : length shapes < length arguments → perform r at stack ≡ Err (stop_at 14 at)
+    too_few h = perform_few r at stack (omega (arith, length_laid ss ts, ap length a-is, ap length s-is))
 
-  fit_is : fit r.arguments (categories (take n ss)) ≡ fit r.arguments (categories_on stack)
-  fit_is = fit_front r.arguments ss ∙ ap (fit r.arguments) (sym (categories_laid ss ts))
-    where
-      fit_front : (cs : List ℕ) (rs : List Shape) → fit cs (categories (take (length cs) rs)) ≡ fit cs (categories rs)
-      fit_front [] rs = refl
-      fit_front (c ∷ cs) [] = refl
-      fit_front (c ∷ cs) (q ∷ rs) = ap (λ b. (eqb q.category c && b)) (fit_front cs rs)
+    pub enough_of : length arguments ≤ length shapes → n ≤ length stack
+    enough_of h = omega (arith, length_laid ss ts, ap length a-is, ap length s-is)
 
-  -- what is taken from the top
-  pub shapes_are : (arguments : List ℕ) (held shapes : List Shape) → arguments ≡ r.arguments → held ≡ ss → shapes ≡ slice_range held 0 (length arguments) → shapes ≡ take n ss
-  shapes_are arguments held shapes a-is h-is s-is =
-      let z : length arguments - 0 ≡ n = omega (arith, ap length a-is) in
-      s-is ∙ ap₂ (λ (k : ℕ) (rs : List Shape). take k rs) z h-is
+    fit_is : fit arguments (categories shapes) ≡ fit r.arguments (categories_on stack)
+    fit_is = ap₂ (λ a s. fit a (categories s)) a-is s-is ∙ ap (fit r.arguments) (sym (categories_laid ss ts))
 
-  module _ (shapes : List Shape) (tokens : List ℕ) where
-    pub strings_are : (constituents : List (List Symbol)) → shapes ≡ take n ss → tokens ≡ ts → constituents ≡ r.constituents
-        → map (spell (strings_on (laid_out shapes tokens))) constituents ≡ map (spell (strings_on (take n stack))) r.constituents
-    strings_are constituents s-is t-is c-is =
-        ap₂ (λ (ys : Yields) (cs : List (List Symbol)). map (spell (strings_on ys)) cs) (ap₂ laid_out s-is t-is ∙ sym (take_laid n ss ts)) c-is
+    pub fits_of : true ≡ fit arguments (categories shapes) → fit r.arguments (categories_on stack) ≡ true
+    fits_of e = sym (e ∙ fit_is)
 
-    pub behind_is : (sum : ℕ) → shapes ≡ take n ss → tokens ≡ ts → sum ≡ total shapes → take (length tokens - sum) (drop sum tokens) ≡ behind
-    behind_is sum s-is t-is sum-is = take_rest tokens sum ∙ ap₂ (λ (k : ℕ) (us : List ℕ). drop k us) (sum-is ∙ ap total s-is) t-is
+    pub wrong_category : length arguments ≤ length shapes → false ≡ fit arguments (categories shapes) → perform r at stack ≡ Err (stop_at 15 at)
+    wrong_category h e = perform_other r at stack (enough_of h) (sym (e ∙ fit_is))
 
-  module _ (enough : n ≤ length ss) where
-    pub enough_on : n ≤ length stack
-    enough_on = omega (arith, length_laid ss ts)
+    pub taken_total : total (take (length arguments) shapes) ≡ total (take n ss)
+    taken_total =
+        ap₂ (λ a s. total (take (length a) s)) a-is s-is
 
-    pub wrong_category : fit r.arguments (categories (take n ss)) ≡ false → perform r at stack ≡ Err (stop_at 15 at)
-    wrong_category h = perform_other r at stack enough_on (sym fit_is ∙ h)
+    pub taken_most : total (take (length arguments) shapes) ≤ length ts
+    taken_most = omega (arith, taken_total, total_front ss n, whole)
 
-    module _ (fits : fit r.arguments (categories (take n ss)) ≡ true) where
-      pub fits_on : fit r.arguments (categories_on stack) ≡ true
-      fits_on = sym fit_is ∙ fits
+    module _ (lent old : List ℕ) (constituents : List (List Symbol)) (sum : ℕ) (l-is : lent ≡ ts) (c-is : constituents ≡ r.constituents)
+        (sum_is_lem : sum ≡ total (take (length arguments) shapes)) (o_is : old ≡ drop sum ts) where
+      strings_are : strings_on (laid_out (take (length arguments) shapes) lent) ≡ strings_on (take n stack)
+      strings_are =
+          ap strings_on (ap₂ laid_out (ap₂ (λ (a : List ℕ) (s : List Shape). take (length a) s) a-is s-is) l-is ∙ sym (take_laid n ss ts))
 
-      pub too_long : most_tokens < tokens_in (map (spell (strings_on (take n stack))) r.constituents) + length behind → perform r at stack ≡ Err (stop_at 16 at)
-      too_long h = perform_long r at stack enough_on fits_on (omega (arith, put_tokens))
+      old_is : old ≡ behind
+      old_is = o_is ∙ ap (λ k. drop k ts) (sum_is_lem ∙ taken_total)
+
+      made_is : map (spell (strings_on (laid_out (take (length arguments) shapes) lent))) constituents ≡ map (spell (strings_on (take n stack))) r.constituents
+      made_is = ap₂ (λ y c. map (spell y) c) strings_are c-is
+
+      pub too_long : (after : List ℕ) → length arguments ≤ length shapes → true ≡ fit arguments (categories shapes)
+          → StringsPut (strings_on (laid_out (take (length arguments) shapes) lent)) constituents old after None → perform r at stack ≡ Err (stop_at 16 at)
+      too_long after h f g =
+          perform_long r at stack (enough_of h) (fits_of f) (omega (arith, put_tokens, ap tokens_in made_is, ap length old_is, g))
+
+      pub made_laid : (after : List ℕ) (l : Lengths) → StringsPut (strings_on (laid_out (take (length arguments) shapes) lent)) constituents old after (Some l)
+          → Laid (map (spell (strings_on (take n stack))) r.constituents) behind after l
+      made_laid after l g =
+          subst (λ (o : List ℕ). Laid (map (spell (strings_on (take n stack))) r.constituents) o after l) old_is
+          (subst (λ (s : List (List ℕ)). Laid s old after l) made_is g)
 
   -- the stack after the command
-  module _ (lengths after : List ℕ) (made : Put (map (spell (strings_on (take n stack))) r.constituents) behind lengths after) where
-    pub after_whole : sum lengths + total (drop n ss) ≡ length after
-    after_whole = omega (arith, put_longer behind _ lengths after made, behind_long)
+  module _ (after : List ℕ) (l : Lengths) (laid : Laid (map (spell (strings_on (take n stack))) r.constituents) behind after l) where
+    pub after_whole : size l + total (drop n ss) ≡ length after
+    after_whole = omega (arith, laid.longer, behind_long)
 
     after_tokens : tokens_on (put r stack) ≡ length after
-    after_tokens = omega (arith, put_tokens, put_size behind _ lengths after made, put_longer behind _ lengths after made)
+    after_tokens =
+        omega (arith, put_tokens, ap tokens_in (sym laid.front), cut_tokens l after (omega (arith, laid.longer)), laid.longer)
 
     pub after_few : length after ≤ most_tokens → NoneEmpty (put r stack) → length (drop n ss) < most_tokens
     after_few h e =
         omega (arith, few_yields (put r stack) e, after_tokens, ap length (drop_laid n ss ts), length_laid (drop n ss) behind)
 
-    pub performed : (x : Shape) → length after ≤ most_tokens → n ≤ length stack → fit r.arguments (categories_on stack) ≡ true
-        → x.category ≡ r.category → x.lengths.items ≡ lengths → perform r at stack ≡ Ok (laid_out (x ∷ drop n ss) after)
-    performed x h enough fits c-is l-is =
+    pub performed : (shapes : List Shape) → length after ≤ most_tokens → n ≤ length stack → fit r.arguments (categories_on stack) ≡ true
+        → shapes ≡ record { category = r.category; lengths = l } ∷ drop n ss → perform r at stack ≡ Ok (laid_out shapes after)
+    performed shapes h enough fits e =
         perform_put r at stack enough fits (omega (arith, after_tokens))
-        ∙ ap {B = _} Ok (sym (ap₂ (λ (y : Yield) (ys : Yields). y ∷ ys)
-        (ap₂ (λ (k : ℕ) (y : List (List ℕ)). record { category = k; strings = y }) c-is (ap (λ (ns : List ℕ). cut ns after) l-is ∙ put_cut behind _ lengths after made))
-        (ap (λ (ns : List ℕ). laid_out (drop n ss) (drop (sum ns) after)) l-is ∙ ap (laid_out (drop n ss)) (put_behind behind _ lengths after made) ∙ sym (drop_laid n ss ts))))
+        ∙ ap {B = _} Ok (sym (ap (λ (s : List Shape). laid_out s after) e
+        ∙ ap₂ (λ (s : List (List ℕ)) (ys : Yields). record { category = r.category; strings = s } ∷ ys) laid.front (ap (laid_out (drop n ss)) laid.behind ∙ sym (drop_laid n ss ts))))

@@ -1,5 +1,4 @@
 -- What the stack of a replay holds, and what one command does to it. Assumes nothing.
---   strings_of f               the strings of each yield of f
 --   stack_of s                 the yields on the stack s
 --   NoneEmpty stack            each yield has a token
 --   does g bytes at stack      what the command of these bytes, at the offset at, does to the stack
@@ -14,17 +13,14 @@ use Rattle.std.specs.Prelude.{◌≡◌, ℕ, ◌≤◌, ◌<◌, true, List, []
 use Rattle.grammar.specs.Grammars.{ProductionModel, GrammarModel, production}
 use Rattle.grammar.specs.Formed.{Each}
 use Rattle.grammar.specs.Trees.{spell, tokens_in}
-use Rattle.replay.specs.declared.front.Front.{Front}
 use Rattle.replay.specs.declared.stack.Stack.{Stack}
 use Rattle.replay.specs.Stops.{ReplayStop, Stop, told}
 use Rattle.replay.specs.Replays.{Yield, Yields, most_tokens, fit, categories_on, strings_on, perform, command, phrase_of, finish}
-use Rattle.replay.specs.Shapes.{Put, laid_out, total}
-
-abbrev pub strings_of : Front → List (List (List ℕ))
-strings_of f = strings_on (laid_out f.shapes.now f.tokens.now)
+use Rattle.replay.specs.Piles.{items}
+use Rattle.replay.specs.Shapes.{Lengths, Laid, laid_out, total}
 
 abbrev pub stack_of : Stack → Yields
-stack_of s = laid_out s.shapes.items s.tokens.items
+stack_of s = laid_out (items s.shapes) (items s.tokens)
 
 abbrev pub NoneEmpty : Yields → Type 0
 NoneEmpty stack = Each (λ y. 1 ≤ tokens_in y.strings) stack
@@ -43,11 +39,11 @@ abbrev pub Unnamed : GrammarModel → List ℕ → ℕ → Stop → Type 0
 Unnamed g bytes at o = (stack : Yields) → does g bytes at stack ≡ Err o
 
 -- the production's yield, and behind it the rest of the tokens
-pub record Made (r : ProductionModel) (s : Stack) (tokens lengths : List ℕ) : Type 0 where
+pub record Made (r : ProductionModel) (s : Stack) (tokens : List ℕ) (lengths : Lengths) : Type 0 where
   pub enough : length r.arguments ≤ length (stack_of s)
   pub fits : fit r.arguments (categories_on (stack_of s)) ≡ true
-  pub put : Put (map (spell (strings_on (take (length r.arguments) (stack_of s)))) r.constituents)
-      (drop (total (take (length r.arguments) s.shapes.items)) s.tokens.items) lengths tokens
+  pub laid : Laid (map (spell (strings_on (take (length r.arguments) (stack_of s)))) r.constituents)
+      (drop (total (take (length r.arguments) (items s.shapes))) (items s.tokens)) tokens lengths
   pub few : length tokens ≤ most_tokens
 
 abbrev pub Stops : ProductionModel → ℕ → Stack → ReplayStop → Type 0

@@ -1,7 +1,7 @@
 // Replaying: a command list run on a stack of yields, back to the phrase that it was read from.
 #![tactic(auto)]
 
-mod front;
+mod pile;
 mod replaying;
 mod shape;
 mod stack;

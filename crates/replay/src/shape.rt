@@ -1,15 +1,15 @@
 // The shape of a stacked yield, whose tokens lie elsewhere: its category, and how long each of its strings is.
-use arrayvec::ArrayVec;
-use grammar::MOST_DIMENSION;
-
 mod calls;
 
-pub(crate) use calls::{fits, joined, total};
+pub(crate) use calls::{fits, place, total};
 
-// How long each string is; a stack holds few tokens, so a byte has room for it.
-pub(crate) type Lengths = ArrayVec<u8, MOST_DIMENSION>;
+#[derive(Clone, Copy)]
+pub(crate) enum Lengths {
+    One(usize),
+    Two(usize, usize),
+}
 
-#[derive(Default, Drop)]
+#[derive(Clone, Copy)]
 pub(crate) struct Shape {
     pub(crate) category: u8,
     pub(crate) lengths: Lengths,

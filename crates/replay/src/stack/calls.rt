@@ -2,23 +2,28 @@
 ghost use Rattle.std.specs.Prelude.{◌≡◌, true, [], length, MatchResult};
 ghost use Rattle.grammar.specs.Formed.{OneOrTwo};
 ghost use Rattle.grammar.specs.Held.{production_model};
+ghost use Rattle.replay.specs.Piles.{items};
 ghost use Rattle.replay.specs.Replays.{categories_on, fit, put};
 ghost use Rattle.replay.specs.Stacks.{Left, Made, NoneEmpty, NotLeft, Performed, Stops, stack_of};
 
-use crate::front::Front;
+use crate::pile::Pile;
 use crate::shape::{Lengths, Shape, fits, total};
+use crate::stack::putting::push_strings;
 use crate::stack::{Stack, Tokens};
 use crate::stops::ReplayStop;
-use arrayvec::ArrayVec;
 use grammar::Production;
 
 impl Stack {
     pub(crate) fn new() -> Stack
         ensures { stack_of result ≡ [] }
     {
+        let nothing = Shape {
+            category: 0,
+            lengths: Lengths::One(0),
+        };
         Stack {
-            shapes: ArrayVec::new(),
-            tokens: Tokens::new(),
+            shapes: Pile::new(nothing),
+            tokens: Pile::new(0),
         }
     }
 
@@ -26,20 +31,28 @@ impl Stack {
     // The tokens that the stack holds after the production's command, and the lengths of the strings that are then on top.
     fn yielded(&self, production: &Production, at: usize) -> Result<(Tokens, Lengths), ReplayStop>
         requires dimension { OneOrTwo (length (production_model production.now).constituents) }
-        ensures { MatchResult result (λ made. Made (production_model production.now) self.now made.0.items made.1.items) (λ e. Stops (production_model production.now) at self.now e) }
+        ensures { MatchResult result (λ made. Made (production_model production.now) self.now (items made.0) made.1) (λ e. Stops (production_model production.now) at self.now e) }
     {
         let arguments = production.arguments();
-        let Some(shapes) = self.shapes.get(..arguments.len()) else {
+        let shapes = self.shapes.items();
+        if shapes.len() < arguments.len() {
             return Err(ReplayStop::TooFew { at });
-        };
+        }
         if !fits(arguments, shapes) {
             return Err(ReplayStop::WrongCategory { at });
         }
-        let tokens = self.tokens.as_slice();
-        let taken = Front { shapes, tokens };
-        taken
-            .spell_all(production.constituents(), &tokens[total(shapes)..])
-            .map_err(|_| ReplayStop::TooLong { at })
+        let taken = &shapes[..arguments.len()];
+        let mut tokens = self.tokens;
+        tokens.take_off(total(taken));
+        match push_strings(
+            &mut tokens,
+            production.constituents(),
+            taken,
+            self.tokens.items(),
+        ) {
+            Some(lengths) => Ok((tokens, lengths)),
+            None => Err(ReplayStop::TooLong { at }),
+        }
     }
 
     // The production's arguments are taken from the top, and its yield is put back.
@@ -49,29 +62,23 @@ impl Stack {
         ensures { Performed (production_model production.now) at self.old result self.new }
     {
         let (tokens, lengths) = self.yielded(production, at)?;
-        drop(self.shapes.drain(..production.arguments().len()));
-        self.shapes.insert(
-            0,
-            Shape {
-                category: production.category(),
-                lengths,
-            },
-        );
+        self.shapes.take_off(production.arguments().len());
+        self.shapes.push(Shape {
+            category: production.category(),
+            lengths,
+        });
         self.tokens = tokens;
         Ok(())
     }
 
-    // The phrase: the string of the only yield.
+    // The phrase: the string of the only yield, which stands on top.
     pub(crate) fn phrase(&self, start: u8) -> Result<&[u16], ReplayStop>
         ensures { MatchResult result (λ phrase. Left start self.now phrase.now) (λ e. NotLeft start self.now e) }
     {
-        let all = Front {
-            shapes: self.shapes.as_slice(),
-            tokens: self.tokens.as_slice(),
-        };
-        let [only] = all.shapes else {
+        let shapes = self.shapes.items();
+        let [only] = shapes else {
             return Err(ReplayStop::NotOne {
-                yields: all.shapes.len(),
+                yields: shapes.len(),
             });
         };
         if only.category != start {
@@ -79,6 +86,6 @@ impl Stack {
                 category: only.category,
             });
         }
-        Ok(all.string(0, 0))
+        Ok(&self.tokens.items()[..only.lengths.first()])
     }
 }
