@@ -83,34 +83,26 @@ module _ {A : Algebra} (laws : Lawful A) {W : Type 0} (exact : W → A.Exact) (n
     abbrev Next : Type 0
     Next = Searching A exact nothing D row ys × Closed A exact nothing n gives (k + 1) row ys
 
-    -- the number k has no rule
-    pub consider_none : gives k None → ys ≡ xs → Next
-    consider_none lacks same =
+    -- no rule with the number k gives anything that fits
+    pub consider_idle : ((r : Rule W) → gives k (Some r) → AllSettled A exact nothing row (premises_of r.premises) → Open A exact nothing row r.result
+        → Le A (A.plus (exact r.price) (worth A exact nothing row (premises_of r.premises))) A.ceiling → ⊥) → ys ≡ xs → Next
+    consider_idle idle same =
         let S : List (Entry W) → Type 0 = λ es. Searching A exact nothing D row es × Closed A exact nothing n gives (k + 1) row es in
         subst S (sym same) (
           s,
           λ r below all free fits.
               elim (ℕ_discrete r.0 k) [
-                | yes p ↦
-                    let e : None ≡ Some r.1 = one k None r.1 lacks (subst (λ (j : ℕ). gives j (Some r.1)) p r.3) in
-                    let z : ◌≡◌ {A = ℕ} 0 1 = cc in
-                    absurd (omega arith)
+                | yes p ↦ absurd (idle r.1 (subst (λ (j : ℕ). gives j (Some r.1)) p r.3) all free fits)
                 | no ne ↦ c r (omega arith) all free fits
               ],
         )
 
-    -- no rule is made where its conclusion is settled, or a premise is not
-    pub consider_idle : ((r : Rule W) → gives k (Some r) → AllSettled A exact nothing row (premises_of r.premises) → Open A exact nothing row r.result → ⊥) → ys ≡ xs → Next
-    consider_idle shut same =
-        let S : List (Entry W) → Type 0 = λ es. Searching A exact nothing D row es × Closed A exact nothing n gives (k + 1) row es in
-        subst S (sym same) (
-          s,
-          λ r below all free fits.
-              elim (ℕ_discrete r.0 k) [
-                | yes p ↦ absurd (shut r.1 (subst (λ (j : ℕ). gives j (Some r.1)) p r.3) all free)
-                | no ne ↦ c r (omega arith) all free fits
-              ],
-        )
+    -- the number k has no rule
+    pub consider_none : gives k None → ys ≡ xs → Next
+    consider_none lacks = consider_idle (λ r given all free fits.
+        let e : None ≡ Some r = one k None r lacks given in
+        let z : ◌≡◌ {A = ℕ} 0 1 = cc in
+        omega arith)
 
     module _ (r : Rule W) (within : k < n) (given : gives k (Some r)) where
       abbrev ps : List ℕ
@@ -127,22 +119,13 @@ module _ {A : Algebra} (laws : Lawful A) {W : Type 0} (exact : W → A.Exact) (n
 
       -- nothing was offered
       pub consider_passed : (Open A exact nothing row r.result → ⊥) ⊎ Weighed A exact nothing row (exact r.price) ps None → ys ≡ xs → Next
-      consider_passed why same =
-          let S : List (Entry W) → Type 0 = λ es. Searching A exact nothing D row es × Closed A exact nothing n gives (k + 1) row es in
-          subst S (sym same) (
-            s,
-            λ q below all free fits.
-                elim (ℕ_discrete q.0 k) [
-                  | yes p ↦
-                      let e = same_rule q p in
-                      elim why [
-                        | inl shut ↦ absurd (shut (subst (λ (z : Rule W). Open A exact nothing row z.result) e free))
-                        | inr heavy ↦ absurd (subst (λ (z : Rule W). Le A (A.plus (exact z.price) (worth A exact nothing row (premises_of z.premises))) A.ceiling) e fits
-                            (heavy (subst (λ (z : Rule W). AllSettled A exact nothing row (premises_of z.premises)) e all)))
-                      ]
-                  | no ne ↦ c q (omega arith) all free fits
-                ],
-          )
+      consider_passed why = consider_idle (λ q told all free fits.
+          let e = same_rule (k, q, within, told) refl in
+          elim why [
+            | inl shut ↦ shut (subst (λ (z : Rule W). Open A exact nothing row z.result) e free)
+            | inr heavy ↦ subst (λ (z : Rule W). Le A (A.plus (exact z.price) (worth A exact nothing row (premises_of z.premises))) A.ceiling) e fits
+                (heavy (subst (λ (z : Rule W). AllSettled A exact nothing row (premises_of z.premises)) e all))
+          ])
 
       module _ (w : W) (free : Open A exact nothing row r.result) (weighed : Weighed A exact nothing row (exact r.price) ps (Some w))
           (o : Offered (cheaper A exact) place (record { cost = w; category = r.result }) xs ys) where

@@ -53,7 +53,7 @@ loop-k-preserved-then-not-is_ready g c =
       inv.0,
       λ h.
           let so_far = inv.1 h in
-          consider_idle g.met.W.Weight.lawful g.W.Weight.exact g.W.Weight.nothing (g.R.Rules.count rules_now) (g.R.Rules.gives rules_now) (g.met.R.Rules.one rules_now) c.args.row.now held held c.loop-k.k so_far.0 so_far.1 (c.is_ready.ensures (search rules)) refl,
+          consider_idle g.met.W.Weight.lawful g.W.Weight.exact g.W.Weight.nothing (g.R.Rules.count rules_now) (g.R.Rules.gives rules_now) (g.met.R.Rules.one rules_now) c.args.row.now held held c.loop-k.k so_far.0 so_far.1 (λ r given all free fits. c.is_ready.ensures (search rules) r given all free) refl,
     )
 
 pub consider-requires-clause-premises : goal.consider-requires-clause-premises
